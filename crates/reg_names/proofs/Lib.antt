@@ -1,0 +1,3 @@
+pub mod DigestTexts
+pub mod NamesLaw
+pub mod TextBytes

@@ -1,0 +1,11 @@
+-- The cause of a fault: a device counts its faults, and tells one only in a call in which the count rose.
+use Rattle.std.specs.Prelude.{ℕ, ◌+◌, ◌-◌, ◌^◌, ◌≤◌, min}
+
+-- A count went up by one at least, or stands at the end of its type.
+abbrev pub Rose : ℕ → ℕ → Type 0
+Rose before now = min (before + 1) (2 ^ 64 - 1) ≤ now
+
+-- The count never falls, and the fault was told only where it rose.
+pub record HasCause (before now : ℕ) (told : Type 0) : Type 0 where
+  pub later : before ≤ now
+  pub rose : told → Rose before now

@@ -1,0 +1,7 @@
+-- What it is to read a text exactly.
+use Rattle.std.specs.Prelude.{◌≡◌, ℕ, List, Option, Some, None}
+
+-- The value is the text, which is in the grammar; nothing is read only where the text is not.
+abbrev pub ReadsExactly : (List ℕ → Type 0) → List ℕ → Option (List ℕ) → Type 0
+ReadsExactly IsIn text (Some value) = (value ≡ text) × IsIn text
+ReadsExactly IsIn text None = ¬ IsIn text

@@ -1,0 +1,22 @@
+-- The scan of a name by one byte after another.
+use Rattle.std.specs.Prelude.{ℕ, Bool, ◌||◌, ◌==◌, if◌then◌else◌, List, Option, Some, None}
+use Rattle.reg_names.specs.declared.name.Spot.{Spot}
+use Rattle.reg_names.specs.declared.name.Spot.TheVariants.{Begin, Inside, Underscore, Dashes}
+use Rattle.reg_names.specs.Names.{is_alphanumeric, begins, goes_on, underscored, dashed}
+
+-- behind a byte that is no letter or digit
+abbrev pub behind : Spot → ℕ → Option Spot
+behind Begin b = None
+behind Inside b = if b == 47 || b == 46 then Some Begin else if b == 95 then Some Underscore else if b == 45 then Some Dashes else None
+behind Underscore b = if b == 95 then Some Begin else None
+behind Dashes b = if b == 45 then Some Dashes else None
+
+abbrev pub next_spot : Spot → ℕ → Option Spot
+next_spot spot b = if is_alphanumeric b then Some Inside else behind spot b
+
+-- whether a name may go on so from here
+abbrev pub accepts : Spot → List ℕ → Bool
+accepts Begin bs = begins bs
+accepts Inside bs = goes_on bs
+accepts Underscore bs = underscored bs
+accepts Dashes bs = dashed bs
