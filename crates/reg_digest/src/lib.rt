@@ -1,0 +1,12 @@
+//! Hashing: the digest of bytes that lie in memory, or that come in pieces.
+//! Both ways give the SHA-256 digest of exactly the bytes that were given, in any cut, and take no memory.
+//! Whoever checks content against its digest stands on this crate, and on the words of `specs/Hashing.antt` for
+//! the digests that bytes have. SHA-256 is that of FIPS 180-4; digests are those of the OCI Image Specification
+//! 1.1, "Digests".
+#![tactic(auto)]
+
+mod hashing;
+#[cfg(test)]
+mod tests;
+
+pub use hashing::{Hashing, digest_of, is_digest_of};
