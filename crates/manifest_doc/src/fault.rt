@@ -1,0 +1,16 @@
+//! Why bytes are no document.
+
+/// The first test that bytes fail, in this order but for `NoMemory`, which may come at any time.
+#[derive(Clone, Copy, Debug, PartialEq, Eq)]
+pub enum DocFault {
+    /// The bytes are no JSON text, or the value is no object.
+    NotJson,
+    /// No kind is told, or the object lacks the members of its kind or has those of another.
+    NoKind,
+    /// The configuration, a layer or a listed manifest is no descriptor.
+    BadDescriptor,
+    /// There are more than 1,024 layers or listed manifests.
+    TooMany,
+    /// Memory was wanting.
+    NoMemory,
+}
