@@ -1,0 +1,4 @@
+pub mod PathLaws
+pub mod CallLaws
+pub mod FileLaws
+pub mod ReadLaws

@@ -1,0 +1,10 @@
+pub mod Paths
+pub mod Files
+pub mod Streams
+pub mod Ids
+pub mod Calls
+pub mod Memory
+pub mod MemDepot
+pub mod MemSource
+pub mod MemSink
+pub mod ListedIds

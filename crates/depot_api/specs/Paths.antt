@@ -1,0 +1,38 @@
+-- Paths: parts with slashes between them.
+use Rattle.std.specs.Prelude.{ℕ, Bool, not, ◌&&◌, ◌||◌, ◌==◌, nat_le, nat_eq, List, length, codes, IsTrue}
+use Rattle.std.specs.Ordering.{is_eq, is_lt, nat_cmp}
+use Rattle.std.specs.List.{list_all, slice_split, join_with_byte}
+use Rattle.std.specs.Cmp.Lexicographic.{pointwise, slice_cmp}
+
+-- neither a slash nor a NUL
+abbrev pub is_part_byte : ℕ → Bool
+is_part_byte b = not (b == 47 || b == 0)
+
+-- one name of a path
+abbrev pub is_part : List ℕ → Bool
+is_part text = nat_le 1 (length text) && nat_le (length text) 255 && list_all is_part_byte text && not (pointwise nat_eq text (codes ".") || pointwise nat_eq text (codes ".."))
+
+abbrev pub IsPart : List ℕ → Type 0
+IsPart text = IsTrue (is_part text)
+
+-- the parts of a text, cut at each slash
+abbrev pub parts_of : List ℕ → List (List ℕ)
+parts_of text = slice_split (λ b. b == 47) text
+
+-- the text of parts
+abbrev pub path_text : List (List ℕ) → List ℕ
+path_text parts = join_with_byte 47 parts
+
+-- one part or more, at most 4,096 bytes of text
+abbrev pub is_path : List (List ℕ) → Bool
+is_path parts = nat_le 1 (length parts) && list_all is_part parts && nat_le (length (path_text parts)) 4096
+
+abbrev pub IsPath : List (List ℕ) → Type 0
+IsPath parts = IsTrue (is_path parts)
+
+-- the order of paths: by parts, and parts by bytes
+abbrev pub is_at : List (List ℕ) → List (List ℕ) → Bool
+is_at p q = is_eq (slice_cmp (slice_cmp nat_cmp) p q)
+
+abbrev pub is_below : List (List ℕ) → List (List ℕ) → Bool
+is_below p q = is_lt (slice_cmp (slice_cmp nat_cmp) p q)

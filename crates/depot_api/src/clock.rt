@@ -1,0 +1,13 @@
+//! Clocks.
+ghost use Rattle.std.specs.Prelude.{◌≡◌, ℕ, ◌^◌, ◌≤◌, Option, IfSome};
+
+/// What tells the moment.
+pub trait Clock {
+    /// The one moment that it reads, where the clock tells that.
+    ghost reading: { Self → Option ℕ };
+
+    /// The moment in seconds since 1970, at most 2^62.
+    fn now(&self) -> u64
+        ensures moment { result ≤ 2 ^ 62 }
+        ensures told { IfSome (reading self.now) (λ at. result ≡ at) };
+}

@@ -1,0 +1,23 @@
+//! The devices of a registry: files under paths, sources and sinks of bytes, a clock, and ids that are drawn.
+//! Each is a trait whose clauses say what a call does to what the device holds, and that a fault is told only where
+//! the device's count of faults rose. `memory` has each device in memory, with calls that fail where they are told to.
+//! Whoever reaches the outside world goes through these traits, and is proved over every device that meets them.
+//! The trees of files are those of the Distribution registry's storage layout.
+#![tactic(auto)]
+
+mod clock;
+mod depot;
+mod ids;
+pub mod memory;
+mod path;
+mod stream;
+
+pub use clock::Clock;
+pub use depot::{Depot, Small};
+pub use ids::Ids;
+pub use path::{Part, Path};
+pub use reg_names::{Bytes, NoMemory, Refused, Text};
+pub use stream::{Sink, SinkFault, Source, SourceFault};
+
+#[cfg(test)]
+mod tests;

@@ -1,0 +1,14 @@
+//! Each device in memory. Calls of a device are counted from 0, and those whose numbers it was given fail.
+
+mod calls;
+mod clock;
+mod depot;
+mod ids;
+mod sink;
+mod source;
+
+pub use clock::FixedClock;
+pub use depot::MemDepot;
+pub use ids::ListedIds;
+pub use sink::MemSink;
+pub use source::MemSource;

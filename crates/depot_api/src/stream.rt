@@ -1,0 +1,47 @@
+//! Sources and sinks of bytes.
+ghost use Rattle.std.specs.Prelude.{◌≡◌, ℕ, List, Option, IsErr};
+ghost use Rattle.std.specs.Io.KnownBytes.{ReadConsumes, WriteAppends};
+ghost use Rattle.reg_names.specs.Cause.{HasCause};
+ghost use Rattle.depot_api.specs.Streams.{Gives, Takes};
+
+/// A source failed, and gave nothing.
+#[derive(Clone, Copy, Debug, PartialEq, Eq)]
+pub struct SourceFault;
+
+/// A sink failed, and took nothing.
+#[derive(Clone, Copy, Debug, PartialEq, Eq)]
+pub struct SinkFault;
+
+/// Where bytes come from.
+pub trait Source {
+    /// The bytes that are left, where the source tells them.
+    ghost left: { Self → Option (List ℕ) };
+
+    /// How many bytes it has given, as far as 2^62.
+    ghost given: { Self → ℕ };
+
+    /// How often it has failed. No call makes it fall.
+    ghost faults: { Self → ℕ };
+
+    /// Fills the front of `into`, and answers how many bytes it gave: 0 only at the end of the input, or for
+    /// an empty room. Takes no memory.
+    fn read(&mut self, into: &mut [u8]) -> Result<usize, SourceFault>
+        ensures bytes { ReadConsumes (left self.old) (left self.new) result into.new }
+        ensures count { Gives into.old (given self.old) (given self.new) result }
+        ensures cause { HasCause (faults self.old) (faults self.new) (IsErr result) };
+}
+
+/// Where bytes go to.
+pub trait Sink {
+    /// The bytes that it has taken, where the sink tells them.
+    ghost taken: { Self → Option (List ℕ) };
+
+    /// How often it has failed. No call makes it fall.
+    ghost faults: { Self → ℕ };
+
+    /// Takes the front of `piece`, and answers how many bytes it took: at least one of a piece that is not empty.
+    fn write(&mut self, piece: &[u8]) -> Result<usize, SinkFault>
+        ensures bytes { WriteAppends (taken self.old) (taken self.new) result piece.now }
+        ensures count { Takes piece.now result }
+        ensures cause { HasCause (faults self.old) (faults self.new) (IsErr result) };
+}
