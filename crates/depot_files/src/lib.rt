@@ -1,0 +1,10 @@
+//! A real directory as a depot of files.
+//! `FileDepot` meets the trait `Depot` without telling its content: no clause can say what a disk holds. What is proved
+//! is that a fault is answered only where the count of faults rose; that the calls read what lies there is tested.
+//! The program hands it to the calls that are proved over every depot. Paths lie below a root, and no symbolic link
+//! is followed out of it.
+#![tactic(auto)]
+
+mod directory;
+
+pub use directory::FileDepot;

@@ -1,0 +1,5 @@
+pub mod SendingLaws
+pub mod CutLaws
+pub mod RequestLaws
+pub mod FrontLaws
+pub mod EndLaws

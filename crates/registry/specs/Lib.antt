@@ -1,0 +1,8 @@
+pub mod Requests
+pub mod Replies
+pub mod Runs
+pub mod Words
+pub mod Sending
+pub mod Steps
+pub mod Fronts
+pub mod Parsing

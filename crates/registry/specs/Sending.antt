@@ -1,0 +1,15 @@
+-- What a sink took of a text.
+use Rattle.std.specs.Prelude.{◌≡◌, ℕ, List, ◌++◌, Option, Result, Ok, Err}
+use Rattle.std.specs.Io.KnownBytes.{Appends}
+
+-- a front of the text, and no more, was taken
+pub record TookFront (old new : Option (List ℕ)) (text : List ℕ) : Type 0 where
+  pub front : List ℕ
+  pub rest : List ℕ
+  pub split : text ≡ front ++ rest
+  pub took : Appends old new front
+
+-- all of the text was taken, or, where the sink failed, a front of it
+abbrev pub Sends : {T E : Type 0} → Option (List ℕ) → Option (List ℕ) → List ℕ → Result T E → Type 0
+Sends old new text (Ok _) = Appends old new text
+Sends old new text (Err _) = TookFront old new text

@@ -1,0 +1,25 @@
+-- The words of the program.
+use Rattle.std.specs.Prelude.{ℕ, Bool, false, not, ◌&&◌, ◌==◌, nat_eq, List, [], ◌∷◌, ◌++◌, codes, IsTrue}
+use Rattle.std.specs.Cmp.Lexicographic.{pointwise}
+
+-- whether a text is this one
+abbrev pub is_text : List ℕ → List ℕ → Bool
+is_text text word = pointwise nat_eq text word
+
+-- the value of an option: not empty, and with no dash at its front
+abbrev pub is_value : List ℕ → Bool
+is_value [] = false
+is_value (b ∷ _) = not (b == 45)
+
+-- `once`, or `once --root DIR`
+abbrev pub are_words : List (List ℕ) → Bool
+are_words (command ∷ []) = is_text command (codes "once")
+are_words (command ∷ option ∷ value ∷ []) = is_text command (codes "once") && is_text option (codes "--root") && is_value value
+are_words _ = false
+
+abbrev pub AreWords : List (List ℕ) → Type 0
+AreWords words = IsTrue (are_words words)
+
+-- what is written where the words are refused
+abbrev pub usage : List ℕ
+usage = codes "usage: registry once|import|review|audit|gen|serve" ++ 10 ∷ []

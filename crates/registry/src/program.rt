@@ -1,0 +1,68 @@
+//! The program over the real devices: the directory of `--root`, standard input and output, and the system's clock.
+use crate::devices::{ReaderSource, SystemClock, SystemIds, WriterSink};
+use crate::run::{Ran, run_plain};
+use crate::sending::write_all;
+use crate::words::{self, USAGE};
+use depot_files::FileDepot;
+use std::alloc::Global;
+use std::env;
+use std::io::{self, ErrorKind};
+use std::random::RandomSource;
+use std::rt::Runtime;
+
+/// Runs the program, and gives its status.
+pub fn run<R: Runtime + AllocGlobal + RandomSource>(rt: &R) -> u8 {
+    match words_of(rt) {
+        Ok(words) => match words::root(&words) {
+            Some(root) => over_directory(rt, &words, root),
+            None => tell(rt, USAGE, 2),
+        },
+        Err(error) if error.kind() == ErrorKind::OutOfMemory => tell(rt, NO_MEMORY, 9),
+        Err(_) => tell(rt, USAGE, 2),
+    }
+}
+
+const DEVICE_FAULT: &str = "device fault\n";
+
+const NO_MEMORY: &str = "no memory\n";
+
+// The words behind the program's name. One that is no UTF-8 is an error.
+fn words_of<R: Runtime + AllocGlobal>(rt: &R) -> io::Result<Vec<String>> {
+    let mut words = Vec::new(rt.alloc());
+    for word in env::args(rt)?.skip(1) {
+        words.push(word)?;
+    }
+    Ok(words)
+}
+
+fn over_directory<R: Runtime + AllocGlobal + RandomSource>(
+    rt: &R,
+    words: &[String],
+    root: &str,
+) -> u8 {
+    match FileDepot::open(rt, root) {
+        Ok(depot) => {
+            let mut input = ReaderSource::new(rt.reader());
+            let mut out = WriterSink::new(io::writer(rt));
+            let Ran { status, .. } = run_plain(
+                rt.alloc(),
+                words,
+                depot,
+                (),
+                &mut SystemClock { rt },
+                &mut SystemIds { rt },
+                &mut input,
+                &mut out,
+            );
+            status
+        }
+        Err(error) if error.kind() == ErrorKind::OutOfMemory => tell(rt, NO_MEMORY, 9),
+        Err(_) => tell(rt, DEVICE_FAULT, 5),
+    }
+}
+
+// Writes a line, and gives the status of a run that ends with it.
+fn tell(rt: &impl Print, line: &str, status: u8) -> u8 {
+    let _ = write_all(&mut WriterSink::new(io::writer(rt)), line.as_bytes());
+    status
+}
