@@ -6,5 +6,7 @@
 #![tactic(auto)]
 
 mod manifests;
+#[cfg(test)]
+mod tests;
 
 pub use manifests::{MANIFEST_LIMIT, StoredManifest, manifest, manifest_by_tag};

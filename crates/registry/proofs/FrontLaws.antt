@@ -181,18 +181,18 @@ begins_with_none-more front more decides none name tag b =
     elim (cases_lt (length front) (length b.head)) [
       | inl beyond ↦ elim decides [
         | inl ends ↦
-          let some = some_of (head_end front) ends in
-          let inner = head_end-within front some.0 some.1 in
-          let same : some.0 ≡ length b.head = cc (head_end-more front more some.0 some.1, reach, ap head_end b.split) in
-          absurd (omega (arith, inner.within))
+            let some = some_of (head_end front) ends in
+            let inner = head_end-within front some.0 some.1 in
+            let same : some.0 ≡ length b.head = cc (head_end-more front more some.0 some.1, reach, ap head_end b.split) in
+            absurd (omega (arith, inner.within))
         | inr rest ↦ elim rest [
           | inl full ↦ absurd (omega (arith, request_short b.head name tag b.request, full))
           | inr over ↦ absurd (omega (arith, length-append front more, length-append b.head b.rest, ap length b.split, ap length over))
         ]
       ]
       | inr within ↦
-        let front_is = front_of front more b.head b.rest b.split within in
-        none name tag (record { head = b.head; rest = front_is.0; request = b.request; split = front_is.1 })
+          let front_is = front_of front more b.head b.rest b.split within in
+          none name tag (record { head = b.head; rest = front_is.0; request = b.request; split = front_is.1 })
     ]
 
 -- what was read of an input tells what the input asks for

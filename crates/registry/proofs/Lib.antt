@@ -3,3 +3,4 @@ pub mod CutLaws
 pub mod RequestLaws
 pub mod FrontLaws
 pub mod EndLaws
+pub mod InMemoryLaws

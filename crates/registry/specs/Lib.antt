@@ -6,3 +6,4 @@ pub mod Sending
 pub mod Steps
 pub mod Fronts
 pub mod Parsing
+pub mod InMemory

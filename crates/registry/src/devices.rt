@@ -20,7 +20,11 @@ pub struct ReaderSource<R> {
 
 impl<R: Read> ReaderSource<R> {
     pub fn new(reader: R) -> ReaderSource<R> {
-        ReaderSource { reader, given: 0, faults: 0 }
+        ReaderSource {
+            reader,
+            given: 0,
+            faults: 0,
+        }
     }
 }
 

@@ -5,11 +5,14 @@
 #![tactic(auto)]
 
 mod devices;
+mod in_memory;
 mod program;
 mod reply;
 mod request;
 mod run;
 mod sending;
+#[cfg(test)]
+mod tests;
 mod words;
 
 use std::process::ExitCode;

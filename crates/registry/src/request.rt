@@ -159,7 +159,5 @@ fn is_host_text(host: &[u8]) -> bool
 {
     host.len() >= 1
         && host.len() <= 255
-        && host
-            .iter()
-            .all(|b| b.is_ascii_alphanumeric() || matches!(b, b'.' | b':' | b'-'))
+        && host.iter().all(|b| b.is_ascii_alphanumeric() || matches!(b, b'.' | b':' | b'-'))
 }

@@ -44,8 +44,8 @@ pub fn run_plain<D: Depot, K, C: Clock, I: Ids, S: Source, O: Sink>(
     // What was written, and the status.
     ensures once { AreWords (map string_bytes words.now)
         → Ends (IsReply (D.tells depot) (D.files depot) (Rose (D.faults depot) (D.faults result.depot)) (S.left input.old))
-            (Rose (S.faults input.old) (S.faults input.new)) (Rose (O.faults out.old) (O.faults out.new))
-            (O.taken out.old) (O.taken out.new) result.status }
+        (Rose (S.faults input.old) (S.faults input.new)) (Rose (O.faults out.old) (O.faults out.new))
+        (O.taken out.old) (O.taken out.new) result.status }
     // The devices come back as they were, and no count falls.
     ensures files { D.files result.depot ≡ D.files depot }
     ensures tells { D.tells result.depot ≡ D.tells depot }
@@ -58,10 +58,18 @@ pub fn run_plain<D: Depot, K, C: Clock, I: Ids, S: Source, O: Sink>(
 {
     if !are_accepted(words) {
         let _ = write_all(out, USAGE.as_bytes());
-        return Ran { status: 2, depot, keeper };
+        return Ran {
+            status: 2,
+            depot,
+            keeper,
+        };
     }
     let status = once(alloc, &mut depot, input, out);
-    Ran { status, depot, keeper }
+    Ran {
+        status,
+        depot,
+        keeper,
+    }
 }
 
 // Answers the request at the front of the input, and tells the status.
@@ -72,8 +80,8 @@ fn once<D: Depot, S: Source, O: Sink>(
     out: &mut O,
 ) -> u8
     ensures ends { Ends (IsReply (D.tells depot.old) (D.files depot.old) (Rose (D.faults depot.old) (D.faults depot.new)) (S.left input.old))
-            (Rose (S.faults input.old) (S.faults input.new)) (Rose (O.faults out.old) (O.faults out.new))
-            (O.taken out.old) (O.taken out.new) result }
+        (Rose (S.faults input.old) (S.faults input.new)) (Rose (O.faults out.old) (O.faults out.new))
+        (O.taken out.old) (O.taken out.new) result }
     ensures status { result ≢ 2 }
     ensures files { D.files depot.new ≡ D.files depot.old }
     ensures tells { D.tells depot.new ≡ D.tells depot.old }
@@ -133,10 +141,7 @@ fn refuse<O: Sink>(out: &mut O, refusal: Refusal) -> u8
     ensures ends { Delivers (replies.Refused refusal) (Rose (O.faults out.old) (O.faults out.new)) (O.taken out.old) (O.taken out.new) result }
     ensures faults { O.faults out.old ≤ O.faults out.new }
 {
-    status_after(
-        write_all(out, refusal.wire().as_bytes()),
-        refusal.status(),
-    )
+    status_after(write_all(out, refusal.wire().as_bytes()), refusal.status())
 }
 
 // The status of a run whose reply was written, or not.

@@ -1,0 +1,11 @@
+use Rattle.std.proofs.Common.{arith, refl}
+use Rattle.registry.proofs.InMemoryLaws.{still, Answers-run}
+use Rattle.registry.proofs.in_memory.run_over.Goals as goal
+
+pub returns : goal.returns
+returns c = λ zero empty.
+    Answers-run _ _ _ _ _ _ _ _
+    (still _ _ (omega (arith, zero, c.faults.ensures, c.faults-2.ensures, c.faults-3.ensures, c.saturating_add.ensures, c.saturating_add-faults.ensures)))
+    (still _ _ (omega (arith, zero, c.faults.ensures, c.faults-2.ensures, c.faults-3.ensures, c.saturating_add.ensures, c.saturating_add-faults.ensures)))
+    (still _ _ (omega (arith, zero, c.faults.ensures, c.faults-2.ensures, c.faults-3.ensures, c.saturating_add.ensures, c.saturating_add-faults.ensures)))
+    empty (c.run_plain-ran.ensures.once c.requires)
