@@ -4,3 +4,4 @@ pub mod RequestLaws
 pub mod FrontLaws
 pub mod EndLaws
 pub mod InMemoryLaws
+pub mod ReplyLaws

@@ -6,6 +6,7 @@
 
 mod devices;
 mod in_memory;
+mod laws;
 mod program;
 mod reply;
 mod request;
