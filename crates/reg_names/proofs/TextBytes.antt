@@ -1,15 +1,15 @@
 -- Which bytes names and tags are made of.
-use Rattle.std.proofs.Common.{◌≡◌, ℕ, zero, suc, ◌<◌, Bool, true, false, ◌&&◌, ◌||◌, ◌==◌, cond, nat_le, List, [], ◌∷◌, ◌++◌, length, IsTrue, refl, ap, ◌∙◌, sym, subst, arith}
-use Rattle.std.specs.Prelude.{nat_lt, slice_index}
+use Rattle.std.proofs.Common.{◌≡◌, ℕ, zero, suc, Bool, true, false, ◌&&◌, ◌||◌, ◌==◌, nat_le, List, [], ◌∷◌, ◌++◌, length, refl, ◌∙◌, arith}
+use Rattle.std.specs.Prelude.{nat_lt}
 use Rattle.std.specs.List.{list_all}
 use Rattle.std.specs.Str.{IsAscii, IsUtf8}
 use Rattle.std.proofs.lemmas.Str.{IsUtf8-from_ascii}
 use Rattle.std.proofs.lemmas.Bool.{and_parts, and_from}
 use Rattle.std.proofs.lemmas.Bool.Decides.{nat_tests}
 use Rattle.std.proofs.lemmas.List.Folds.{list_all-append}
-use Rattle.reg_names.specs.Names.{is_alphanumeric, IsName, IsWord, last, more, AreDashes, one, another, IsSeparator, dot, underscore, underscores, dashes, IsComponent, word, joined, AreComponents, component, under, IsRepositoryName}
+use Rattle.reg_names.specs.Names.{is_alphanumeric, IsName, IsWord, last, more, AreDashes, one, another, IsSeparator, dot, underscore, underscores, dashes, IsComponent, word, joined, AreComponents, component, under}
 use Rattle.reg_names.proofs.NamesLaw.{IsName-grammar}
-use Rattle.reg_names.specs.Tags.{is_tag, is_tag_byte, is_word, IsTag}
+use Rattle.reg_names.specs.Tags.{is_tag_byte, is_word, IsTag}
 
 -- a byte that may stand in a name
 abbrev pub is_name_byte : ℕ → Bool

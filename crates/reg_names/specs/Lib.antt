@@ -3,5 +3,8 @@ pub mod Kinds
 pub mod Tags
 pub mod Names
 pub mod Digests
+pub mod Named
 pub mod Reading
 pub mod Scans
+pub mod UploadIds
+pub mod References

@@ -2,14 +2,14 @@
 ghost use Rattle.std.specs.Prelude.{◌≡◌, ◌↔◌, [], IfOk, IsTrue, length};
 
 use crate::NoMemory;
+use crate::by_bytes::ByBytes;
 use std::alloc::Global;
-use std::cmp::Ordering;
 use std::marker::Model;
 
 /// Any bytes, which contracts see as the list of them.
-#[derive(Debug, Drop)]
+#[derive(Debug, Drop, PartialEq, Eq, PartialOrd, Ord)]
 pub struct Bytes {
-    bytes: Vec<u8>,
+    bytes: ByBytes<Vec<u8>>,
 }
 
 impl Model for Bytes {
@@ -17,7 +17,9 @@ impl Model for Bytes {
 
     ghost Value = { List ℕ };
 
-    ghost view = { λ b. b.bytes.items };
+    ghost view = { λ b. b.bytes };
+
+    ghost inverse = { λ bytes. record { bytes = bytes } };
 }
 
 impl Bytes {
@@ -25,16 +27,16 @@ impl Bytes {
     pub fn from_slice(alloc: Global, bytes: &[u8]) -> Result<Bytes, NoMemory>
         ensures { IfOk result (λ b. b ≡ bytes.now) }
     {
-        Ok(Bytes {
-            bytes: Vec::from_slice(alloc, bytes)?,
-        })
+        Ok(Bytes::from_vec(Vec::from_slice(alloc, bytes)?))
     }
 
     /// The bytes that a `Vec` holds. It takes no memory.
     pub fn from_vec(bytes: Vec<u8>) -> Bytes
         ensures { result ≡ bytes.items }
     {
-        Bytes { bytes }
+        Bytes {
+            bytes: ByBytes::new(bytes),
+        }
     }
 
     /// The `Vec` that holds the bytes. It takes no memory.
@@ -42,7 +44,7 @@ impl Bytes {
         ensures { result.items ≡ self }
     {
         let Bytes { bytes } = self;
-        bytes
+        bytes.into_inner()
     }
 
     /// Equal bytes.
@@ -55,73 +57,18 @@ impl Bytes {
     pub fn as_slice(&self) -> &[u8]
         ensures { result.now ≡ self.now }
     {
-        &self.bytes
+        self.bytes.get_ref()
     }
 
     pub fn len(&self) -> usize
         ensures { result ≡ length self.now }
     {
-        self.bytes.len()
+        self.bytes.get_ref().len()
     }
 
     pub fn is_empty(&self) -> bool
         ensures { IsTrue result ↔ (self.now ≡ []) }
     {
-        self.bytes.is_empty()
-    }
-}
-
-impl PartialEq for Bytes {
-    ghost use Rattle.std.specs.Prelude.{nat_eq};
-    ghost use Rattle.std.specs.Cmp.{partial_equiv_from_equiv};
-    ghost use Rattle.std.specs.Cmp.Lexicographic.{pointwise, nat_list_eq_equiv};
-
-    ghost eq = { pointwise nat_eq };
-
-    ghost laws = { partial_equiv_from_equiv nat_list_eq_equiv };
-
-    fn eq(&self, other: &Bytes) -> bool {
-        self.as_slice() == other.as_slice()
-    }
-}
-
-impl Eq for Bytes {
-    ghost use Rattle.std.specs.Cmp.Lexicographic.{nat_list_eq_equiv};
-
-    ghost laws = { nat_list_eq_equiv };
-}
-
-impl Ord for Bytes {
-    ghost use Rattle.std.proofs.Common.{rules};
-    ghost use Rattle.std.specs.Ordering.{nat_cmp};
-    ghost use Rattle.std.specs.Cmp.Rules.{comparing};
-    ghost use Rattle.std.specs.Cmp.Lexicographic.{slice_cmp, nat_list_cmp_total};
-
-    ghost cmp = { slice_cmp nat_cmp };
-
-    ghost total = { nat_list_cmp_total };
-
-    ghost matches_partial_cmp = { Prim.search (comparing, rules) };
-
-    ghost matches_eq = { Prim.search (comparing, rules) };
-
-    fn cmp(&self, other: &Bytes) -> Ordering {
-        self.as_slice().cmp(&other.as_slice())
-    }
-}
-
-impl PartialOrd for Bytes {
-    ghost use Rattle.std.proofs.Common.{rules};
-    ghost use Rattle.std.specs.Ordering.{nat_cmp, as_partial_cmp};
-    ghost use Rattle.std.specs.Cmp.{partial_order_from_own_ties};
-    ghost use Rattle.std.specs.Cmp.Rules.{comparing};
-    ghost use Rattle.std.specs.Cmp.Lexicographic.{slice_cmp};
-
-    ghost partial_cmp = { as_partial_cmp (slice_cmp nat_cmp) };
-
-    ghost laws = { partial_order_from_own_ties (Prim.search (comparing, rules)) (Prim.search (comparing, rules)) };
-
-    fn partial_cmp(&self, other: &Bytes) -> Option<Ordering> {
-        Some(self.cmp(other))
+        self.bytes.get_ref().is_empty()
     }
 }

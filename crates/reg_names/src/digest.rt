@@ -1,5 +1,7 @@
 //! Digests.
-ghost use Rattle.std.specs.Prelude.{◌≡◌, ℕ, List, ◌∷◌, MatchOption, IfOk};
+ghost use Rattle.std.specs.Prelude.{◌≡◌, ℕ, List, ◌∷◌, codes, MatchOption, IfOk};
+ghost use Rattle.std.specs.Ordering.{nat_cmp};
+ghost use Rattle.std.specs.Cmp.Lexicographic.{slice_cmp};
 ghost use Rattle.hex.specs.Hex.{encode_lower};
 ghost use Rattle.reg_names.specs.Digests.{IsDigest, IsDigestText, digest_text, digest_named};
 
@@ -70,6 +72,15 @@ impl Digest {
         let digits = hex::encode(alloc, self.raw)?;
         Ok(Text::from_string(format!(in alloc; "sha256:{digits}")?))
     }
+
+    // What the text begins with, up to the colon.
+    pub(crate) fn front(&self) -> &'static str
+        ensures text { result.now ≡ codes "sha256:" }
+        ensures digest { IsDigest self.now }
+    {
+        let _ = &self.raw;
+        "sha256:"
+    }
 }
 
 // The 64 lower-case digits of 32 bytes.
@@ -85,6 +96,11 @@ fn digits_of(raw: &[u8; 32]) -> [u8; 64]
 /// The text of each digest reads back to that digest.
 pub fn digests_read_back()
     ensures { (digest : List ℕ) → IsDigest digest → digest_named (digest_text digest) ≡ Some digest }
+{}
+
+/// The order of digests is that of their texts.
+pub fn digests_are_ordered_as_texts()
+    ensures { (digest other : List ℕ) → IsDigest digest → IsDigest other → slice_cmp nat_cmp digest other ≡ slice_cmp nat_cmp (digest_text digest) (digest_text other) }
 {}
 
 impl PartialEq for Digest {

@@ -1,5 +1,9 @@
 //! Texts just inside and just outside their grammars, and each public call on its happy path.
-use crate::{Bytes, Digest, Kind, Name, NoMemory, Refused, Tag, Text};
+use crate::{
+    Bytes, Digest, DigestList, Kind, Name, Named, NamedList, NoMemory, Reference, Refused, Tag,
+    Text, UploadId,
+};
+use std::alloc::Global;
 use std::cmp::Ordering;
 use std::test::Fail;
 
@@ -115,6 +119,121 @@ fn digests(rt: HostRuntime) -> Result<(), Fail> {
     Ok(())
 }
 
+// The version 4 example of RFC 9562, appendix A.3.
+const ID: &str = "919108f7-52d1-4320-9bac-f847db4148a8";
+
+#[test]
+fn upload_ids(rt: HostRuntime) -> Result<(), Fail> {
+    for text in [
+        ID,
+        "00000000-0000-0000-0000-000000000000",
+        "ffffffff-ffff-ffff-ffff-ffffffffffff",
+        "0a1b2c3d-4e5f-6071-8293-a4b5c6d7e8f9",
+    ] {
+        let id = UploadId::read(text)?.ok_or("no id")?;
+        assert_eq!(rt; id.text(rt.alloc())?.as_str(), text);
+        assert_eq!(rt;
+            UploadId::read_bytes(text.as_bytes())?,
+            Some(id),
+            "at {text}"
+        );
+    }
+    Ok(())
+}
+
+#[test]
+fn texts_that_are_no_upload_ids(rt: HostRuntime) -> Result<(), Fail> {
+    for text in [
+        "",
+        "919108F7-52D1-4320-9BAC-F847DB4148A8",
+        "919108f7-52d1-4320-9bac-f847db4148A8",
+        "{919108f7-52d1-4320-9bac-f847db4148a8}",
+        "urn:uuid:919108f7-52d1-4320-9bac-f847db4148a8",
+        "919108f752d143209bacf847db4148a8",
+        "919108f7-52d1-4320-9bac-f847db4148a",
+        "919108f7-52d1-4320-9bac-f847db4148a8a",
+        "919108f7-52d1-4320-9bac-f847db4148a8\n",
+        "919108f75-2d1-4320-9bac-f847db4148a8",
+        "919108f7-52d1-4320-9bacf-847db4148a8",
+        "919108f7-52d1-4320-9bac_f847db4148a8",
+        "919108f7-52d1-4320-9bac-f847db4148ag",
+        "919108f7-52d1-4320-9bac-f847db4148\u{e9}",
+    ] {
+        assert_eq!(rt; UploadId::read(text)?, None, "at {text}");
+    }
+    let mut bytes = [0; 36];
+    bytes.copy_from_slice(ID.as_bytes());
+    bytes[35] = 0xff;
+    assert_eq!(rt; UploadId::read_bytes(&bytes)?, None);
+    Ok(())
+}
+
+#[test]
+fn version_4_ids(rt: HostRuntime) -> Result<(), Fail> {
+    let rising = [
+        0, 17, 34, 51, 68, 85, 102, 119, 136, 153, 170, 187, 204, 221, 238, 255,
+    ];
+    for (bytes, text) in [
+        ([0; 16], "00000000-0000-4000-8000-000000000000"),
+        ([0xff; 16], "ffffffff-ffff-4fff-bfff-ffffffffffff"),
+        (rising, "00112233-4455-4677-8899-aabbccddeeff"),
+    ] {
+        let id = UploadId::of_bytes(bytes);
+        assert_eq!(rt; id.text(rt.alloc())?.as_str(), text);
+        assert_eq!(rt; UploadId::read(text)?, Some(id), "at {text}");
+    }
+    assert_eq!(rt; UploadId::of_bytes([0; 16]).raw()[6], 0x40);
+    Ok(())
+}
+
+// What a text is read as.
+fn read_as(alloc: Global, text: &str) -> Result<&'static str, NoMemory> {
+    Ok(match Reference::read(alloc, text)? {
+        Some(Reference::Tag(_)) => "tag",
+        Some(Reference::Digest(_)) => "digest",
+        None => "nothing",
+    })
+}
+
+#[test]
+fn references(rt: HostRuntime) -> Result<(), Fail> {
+    let longest = str::from_utf8(&LETTERS[..128])?;
+    let too_long = str::from_utf8(&LETTERS[..129])?;
+    for (text, kind) in [
+        ("latest", "tag"),
+        ("sha256", "tag"),
+        (longest, "tag"),
+        (too_long, "nothing"),
+        (EXAMPLE, "digest"),
+        ("", "nothing"),
+        ("a:b", "nothing"),
+        ("a/b", "nothing"),
+        ("sha256:", "nothing"),
+        (
+            "sha256:6C3C624B58DBBCD3C0DD82B4C53F04194D1247C6EEBDAAB7C610CF7D66709B3B",
+            "nothing",
+        ),
+        (
+            "sha512:6c3c624b58dbbcd3c0dd82b4c53f04194d1247c6eebdaab7c610cf7d66709b3b",
+            "nothing",
+        ),
+    ] {
+        assert_eq!(rt; read_as(rt.alloc(), text)?, kind, "at {text}");
+    }
+    Ok(())
+}
+
+#[test]
+fn references_copy(rt: HostRuntime) -> Result<(), Fail> {
+    for text in ["latest", EXAMPLE] {
+        let reference = Reference::read_bytes(rt.alloc(), text.as_bytes())?.ok_or("none")?;
+        let own = reference.text(rt.alloc())?;
+        assert_eq!(rt; own.as_str(), text);
+        assert_eq!(rt; reference.copy(rt.alloc())?, reference);
+    }
+    Ok(())
+}
+
 #[test]
 fn media_types(rt: HostRuntime) {
     for (kind, text) in [
@@ -176,23 +295,87 @@ fn bytes_copy(rt: HostRuntime) -> Result<(), Fail> {
     Ok(())
 }
 
+fn names_rise(alloc: Global, low: &str, high: &str) -> Result<bool, NoMemory> {
+    let (low, high) = (Name::read(alloc, low)?, Name::read(alloc, high)?);
+    Ok(low.is_some() && low < high)
+}
+
+fn tags_rise(alloc: Global, low: &str, high: &str) -> Result<bool, NoMemory> {
+    let (low, high) = (Tag::read(alloc, low)?, Tag::read(alloc, high)?);
+    Ok(low.is_some() && low.partial_cmp(&high) == Some(Ordering::Less))
+}
+
+fn bytes_rise(alloc: Global, low: &str, high: &str) -> Result<bool, NoMemory> {
+    let (low, high) = (low.as_bytes(), high.as_bytes());
+    let (low, high) = (
+        Bytes::from_slice(alloc, low)?,
+        Bytes::from_slice(alloc, high)?,
+    );
+    Ok(low < high && low == low.copy(alloc)?)
+}
+
 #[test]
 fn orders(rt: HostRuntime) -> Result<(), Fail> {
-    let alloc = rt.alloc();
     for (low, high) in [("9", "a"), ("a", "a-b"), ("a-b", "a.b"), ("a.b", "a_b")] {
-        let (name, next) = (Name::read(alloc, low)?, Name::read(alloc, high)?);
-        assert_eq!(rt; name.cmp(&next), Ordering::Less, "at {low}");
-        let (tag, next) = (Tag::read(alloc, low)?, Tag::read(alloc, high)?);
-        assert_eq!(rt; next.partial_cmp(&tag), Some(Ordering::Greater), "at {low}");
-        let (bytes, next) = (low.as_bytes(), high.as_bytes());
-        let (bytes, next) = (
-            Bytes::from_slice(alloc, bytes)?,
-            Bytes::from_slice(alloc, next)?,
-        );
-        assert!(rt; bytes < next && bytes == bytes.copy(alloc)?, "at {low}");
+        assert!(rt; names_rise(rt.alloc(), low, high)?, "at {low}");
+        assert!(rt; tags_rise(rt.alloc(), low, high)?, "at {low}");
+        assert!(rt; bytes_rise(rt.alloc(), low, high)?, "at {low}");
     }
     let (digest, next) = (Digest::from_sha256([1; 32]), Digest::from_sha256([2; 32]));
     assert_eq!(rt; digest.cmp(&next), Ordering::Less);
+    let (id, next) = (UploadId::of_bytes([0; 16]), UploadId::of_bytes([1; 16]));
+    assert!(rt; id < next && id != next);
     assert_eq!(rt; Kind::OciImage.cmp(&Kind::DockerList), Ordering::Less);
+    Ok(())
+}
+
+// Whether two texts are read as references, the first below the second.
+fn are_rising(alloc: Global, low: &str, high: &str) -> Result<bool, NoMemory> {
+    let (low, high) = (Reference::read(alloc, low)?, Reference::read(alloc, high)?);
+    Ok(low.is_some() && low < high && high > low && low != high)
+}
+
+#[test]
+fn references_are_ordered_as_texts(rt: HostRuntime) -> Result<(), Fail> {
+    for (low, high) in [
+        ("sha256", "sha256-a"),
+        ("sha256.a", "sha2569"),
+        ("sha2569", EXAMPLE),
+        (
+            "sha256:6c3c624b58dbbcd3c0dd82b4c53f04194d1247c6eebdaab7c610cf7d66709b39",
+            "sha256:6c3c624b58dbbcd3c0dd82b4c53f04194d1247c6eebdaab7c610cf7d66709b3a",
+        ),
+        (EXAMPLE, "sha256A"),
+        ("sha256_", "sha3"),
+    ] {
+        assert!(rt; are_rising(rt.alloc(), low, high)?, "at {low}");
+    }
+    Ok(())
+}
+
+#[test]
+fn lists_give_back_what_they_hold(rt: HostRuntime) -> Result<(), Fail> {
+    let alloc = rt.alloc();
+    let (first, second) = (Digest::from_sha256([1; 32]), Digest::from_sha256([2; 32]));
+    let digests = DigestList::from_vec(vec![in alloc; first, second]?);
+    assert_eq!(rt; digests.copy(alloc)?, digests);
+    assert!(rt; digests != DigestList::from_vec(vec![in alloc; first, first]?));
+    assert_eq!(rt; digests.len(), 2);
+    assert!(rt; !digests.is_empty());
+    assert_eq!(rt; digests.into_vec().as_slice(), [first, second].as_slice());
+    let entry = Named {
+        digest: first,
+        free: true,
+    };
+    let other = Named {
+        digest: first,
+        free: false,
+    };
+    let named = NamedList::from_vec(vec![in alloc; entry]?);
+    assert_eq!(rt; named.copy(alloc)?, named);
+    assert!(rt; named != NamedList::from_vec(vec![in alloc; other]?));
+    assert_eq!(rt; named.len(), 1);
+    assert!(rt; !named.is_empty());
+    assert_eq!(rt; named.into_vec().as_slice(), [entry].as_slice());
     Ok(())
 }
