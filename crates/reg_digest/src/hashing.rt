@@ -19,8 +19,7 @@ pub fn digest_of(bytes: &[u8]) -> Digest
 pub fn is_digest_of(digest: &Digest, bytes: &[u8]) -> bool
     ensures { result ≡ hashes_to digest.now bytes.now }
 {
-    let _form = digest.raw();
-    digest_of(bytes) == *digest
+    digest_of(bytes).raw() == digest.raw()
 }
 
 /// The SHA-256 digest of bytes that come in pieces. `Holds hashing fed` says which bytes came so far.

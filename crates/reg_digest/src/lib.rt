@@ -9,4 +9,6 @@ mod hashing;
 #[cfg(test)]
 mod tests;
 
-pub use hashing::{Hashing, digest_of, is_digest_of};
+pub use hashing::{
+    Hashing, bytes_have_one_digest, digest_of, hashes_are_digests, hashing_is_tested, is_digest_of,
+};
