@@ -1,12 +1,16 @@
 -- A file that is longer than what it should hold does not hold it, so a short read is enough.
-use Rattle.std.proofs.Common.{◌≡◌, ◌≢◌, ℕ, ◌+◌, ◌*◌, ◌<◌, ◌≤◌, Bool, true, false, cond, List, [], ◌∷◌, ◌++◌, length, Option, Some, None, Decides, nat_eq, codes, refl, sym, ap, ◌∙◌, subst, arith, length-append, leb}
+use Rattle.std.proofs.Common.{◌≡◌, ◌≢◌, ℕ, ◌+◌, ◌*◌, ◌<◌, ◌≤◌, Bool, true, false, cond, List, [], ◌∷◌, ◌++◌, length, Option, Some, None, Ok, Decides, nat_eq, codes, refl, sym, ap, ◌∙◌, subst, arith, length-append, leb}
 use Rattle.std.specs.Prelude.{nat_le, option_and_then, ◌&&◌}
+use Rattle.std.specs.Result.{result_ok}
 use Rattle.std.specs.Cmp.Lexicographic.{pointwise, unequal}
 use Rattle.std.proofs.lemmas.Bool.Decides.{nat_tests}
 use Rattle.hex.specs.Hex.{encode_lower}
 use Rattle.hex.proofs.HexLemmas.{length-encode_with}
 use Rattle.reg_names.specs.Digests.{digest_text, digest_named, IsDigest}
 use Rattle.reg_names.proofs.DigestTexts.{digest_named-is}
+use Rattle.manifest_doc.specs.declared.document.Doc.{Doc}
+use Rattle.manifest_doc.specs.Documents.{IsDocument, verdict}
+use Rattle.manifest_doc.proofs.DocumentLaws.{passes}
 use Rattle.reg_digest.specs.Hashing.{hashes_to}
 use Rattle.link_reading.specs.Meaning.{holds, kind_by}
 use Rattle.link_reading.specs.Answers.{short}
@@ -44,3 +48,10 @@ kind-short (Some bytes) digest = at_test _ refl where
   at_test : (b : Bool) → nat_le (length bytes) 4194304 ≡ b → option_and_then (kind_by digest) (cond b (Some bytes) None) ≡ kind_by digest bytes
   at_test true e = refl
   at_test false e = rw e refl
+
+-- the kind of a document that hashes to the digest and is no longer than it may be
+pub kind_by_document : (digest bytes : List ℕ) (doc : Doc) → length bytes ≤ 4194304 → hashes_to digest bytes ≡ true → IsDocument bytes doc → kind_by digest bytes ≡ Some doc.kind
+kind_by_document digest bytes doc short hashes document = at_test _ refl hashes (passes bytes doc document) where
+  at_test : (b : Bool) → nat_le (length bytes) 4194304 ≡ b → hashes_to digest bytes ≡ true → verdict bytes ≡ Ok doc.kind → cond (b && hashes_to digest bytes) (result_ok (verdict bytes)) None ≡ Some doc.kind
+  at_test true e h v = rw (h, v) refl
+  at_test false e h v = absurd (grind (arith, nat_tests))

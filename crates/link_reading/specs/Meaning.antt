@@ -5,7 +5,7 @@ use Rattle.std.specs.Cmp.Lexicographic.{pointwise}
 use Rattle.reg_names.specs.declared.kind.Kind.{Kind}
 use Rattle.reg_names.specs.Digests.{digest_text, digest_named}
 use Rattle.reg_digest.specs.Hashing.{hashes_to}
-use Rattle.manifest_doc.specs.Kinds.{kind_in}
+use Rattle.manifest_doc.specs.Documents.{verdict}
 use Rattle.depot_api.specs.Files.{Files}
 use Rattle.link_paths.specs.Places.{data_path, revision_path, tag_path}
 
@@ -14,9 +14,9 @@ abbrev pub holds : Option (List ℕ) → List ℕ → Bool
 holds None text = false
 holds (Some bytes) text = pointwise nat_eq bytes text
 
--- the kind of manifest that bytes are, where they are no more than 4,194,304 and hash to the digest
+-- the kind of document that bytes are, where they are no more than 4,194,304 and hash to the digest
 abbrev pub kind_by : List ℕ → List ℕ → Option Kind
-kind_by digest bytes = if nat_le (length bytes) 4194304 && hashes_to digest bytes then result_ok (kind_in bytes) else None
+kind_by digest bytes = if nat_le (length bytes) 4194304 && hashes_to digest bytes then result_ok (verdict bytes) else None
 
 -- the kind of the manifest that a repository has under a digest: its revision link holds the digest's text, and
 -- the digest's data file is a manifest

@@ -8,7 +8,7 @@ ghost use Rattle.link_reading.specs.Answers.{IsManifest, IsManifestByTag, IsStor
 
 use depot_api::{Depot, Path, Small};
 use link_paths::{data_path, revision_path, tag_path};
-use manifest_doc::{DocFault, kind_of};
+use manifest_doc::{DocFault, read_doc};
 use reg_digest::is_digest_of;
 use reg_names::{Bytes, Digest, Kind, Name, NoMemory, Refused, Tag};
 use std::alloc::Global;
@@ -139,17 +139,18 @@ fn short_file<D: Depot>(
     }
 }
 
-// The manifest that bytes are, where they hash to the digest and have a kind.
+// The manifest that bytes are, where they hash to the digest and are a document.
+#[tactic(auto, using(crate::proofs::Shortness::kind_by_document))]
 fn judged(alloc: Global, digest: &Digest, bytes: Bytes) -> Result<Option<StoredManifest>, NoMemory>
     ensures { length bytes ≤ MANIFEST_LIMIT → IfOk result (IsStored digest.now (Some bytes)) }
 {
     if !is_digest_of(digest, bytes.as_slice()) {
         return Ok(None);
     }
-    match kind_of(alloc, bytes.as_slice()) {
-        Ok(kind) => Ok(Some(StoredManifest {
+    match read_doc(alloc, bytes.as_slice()) {
+        Ok(doc) => Ok(Some(StoredManifest {
             digest: *digest,
-            kind,
+            kind: doc.kind,
             bytes,
         })),
         Err(DocFault::NoMemory) => Err(NoMemory),

@@ -2,38 +2,53 @@
 use crate::{StoredManifest, manifest, manifest_by_tag};
 use depot_api::memory::MemDepot;
 use depot_api::{Bytes, Path};
+use link_paths::{data_path, revision_path, tag_path};
 use reg_digest::digest_of;
 use reg_names::{Digest, Kind, Name, Tag};
 use std::alloc::Global;
 use std::test::Fail;
 
-// An image manifest of one layer, and its SHA-256.
+// An image manifest with no layer, and its SHA-256.
 const MANIFEST: &str =
-    r#"{"schemaVersion":2,"mediaType":"application/vnd.oci.image.manifest.v1+json","config":{"mediaType":"application/vnd.oci.empty.v1+json","digest":"sha256:44136fa355b3678a1146ad16f7e8649e94fb4fc21fe77e8310c060f61caaff8a","size":2},"layers":[{"mediaType":"application/octet-stream","digest":"sha256:2cf24dba5fb0a30e26e83b2ac5b9e29e1b161e5c1fa7425e73043362938b9824","size":5}]}"#;
+    r#"{"schemaVersion":2,"config":{"mediaType":"application/vnd.oci.empty.v1+json","digest":"sha256:44136fa355b3678a1146ad16f7e8649e94fb4fc21fe77e8310c060f61caaff8a","size":2},"layers":[]}"#;
 
-const DIGEST: &str = "sha256:98e12f26c1511cdf1aa0ed2ae2ead722b2a3f5d57c57f99e65a44faf9504395c";
+const DIGEST: &str = "sha256:91f862fccf6f849deec349bc66cd9dafffefb5179629c1e53c58b2010fda0e02";
 
-const DATA: &str =
-    "docker/registry/v2/blobs/sha256/98/98e12f26c1511cdf1aa0ed2ae2ead722b2a3f5d57c57f99e65a44faf9504395c/data";
-
-const REVISION: &str =
-    "docker/registry/v2/repositories/a/_manifests/revisions/sha256/98e12f26c1511cdf1aa0ed2ae2ead722b2a3f5d57c57f99e65a44faf9504395c/link";
-
-const CURRENT: &str = "docker/registry/v2/repositories/a/_manifests/tags/v1/current/link";
-
-fn file(alloc: Global, path: &str, content: &[u8]) -> Result<(Path, Bytes), Fail> {
-    let path = Path::read(alloc, path)?.ok_or("no path")?;
-    Ok((path, Bytes::from_slice(alloc, content)?))
+// What a tagged manifest is kept in.
+#[derive(Clone, Copy, Debug)]
+enum Item {
+    Data,
+    Revision,
+    Current,
 }
 
-// The three files of the tag `v1` of `a`, and others, which count where they have the same paths.
-fn depot(alloc: Global, others: Vec<(Path, Bytes)>) -> Result<MemDepot, Fail> {
+// Where an item of the repository `a` and its tag `v1` lies.
+fn place(alloc: Global, item: Item, digest: &Digest) -> Result<Path, Fail> {
+    let name = Name::read(alloc, "a")?.ok_or("no name")?;
+    let tag = Tag::read(alloc, "v1")?.ok_or("no tag")?;
+    Ok(match item {
+        Item::Data => data_path(alloc, digest)?,
+        Item::Revision => revision_path(alloc, &name, digest)?,
+        Item::Current => tag_path(alloc, &name, &tag)?,
+    })
+}
+
+// A depot in which the tag points to these bytes, but for one item that may be broken.
+fn depot(alloc: Global, bytes: &[u8], broken: Option<(Item, &[u8])>) -> Result<MemDepot, Fail> {
+    let digest = digest_of(bytes);
+    let text = digest.text(alloc)?;
     let mut files = Vec::new(alloc);
-    files.push(file(alloc, CURRENT, DIGEST.as_bytes())?)?;
-    files.push(file(alloc, REVISION, DIGEST.as_bytes())?)?;
-    files.push(file(alloc, DATA, MANIFEST.as_bytes())?)?;
-    for entry in others {
-        files.push(entry)?;
+    for (item, content) in [
+        (Item::Current, text.as_bytes()),
+        (Item::Revision, text.as_bytes()),
+        (Item::Data, bytes),
+    ] {
+        let path = place(alloc, item, &digest)?;
+        files.push((path, Bytes::from_slice(alloc, content)?))?;
+    }
+    if let Some((item, content)) = broken {
+        let path = place(alloc, item, &digest)?;
+        files.push((path, Bytes::from_slice(alloc, content)?))?;
     }
     Ok(MemDepot::new(alloc, files, Vec::new(alloc))?)
 }
@@ -47,7 +62,7 @@ fn pulled(alloc: Global, depot: &mut MemDepot) -> Result<Option<StoredManifest>,
 #[test]
 fn a_manifest_is_found_by_digest_and_by_tag(rt: HostRuntime) -> Result<(), Fail> {
     let alloc = rt.alloc();
-    let mut depot = depot(alloc, Vec::new(alloc))?;
+    let mut depot = depot(alloc, MANIFEST.as_bytes(), None)?;
     let name = Name::read(alloc, "a")?.ok_or("no name")?;
     let digest = Digest::read(DIGEST).ok_or("no digest")?;
     for found in [
@@ -65,51 +80,37 @@ fn a_manifest_is_found_by_digest_and_by_tag(rt: HostRuntime) -> Result<(), Fail>
 #[test]
 fn a_tag_means_nothing_where_an_item_is_broken(rt: HostRuntime) -> Result<(), Fail> {
     let alloc = rt.alloc();
-    let line = "sha256:98e12f26c1511cdf1aa0ed2ae2ead722b2a3f5d57c57f99e65a44faf9504395c\n";
-    let capitals = "sha256:98E12F26C1511CDF1AA0ED2AE2EAD722B2A3F5D57C57F99E65A44FAF9504395C";
+    let line = "sha256:91f862fccf6f849deec349bc66cd9dafffefb5179629c1e53c58b2010fda0e02\n";
+    let capitals = "sha256:91F862FCCF6F849DEEC349BC66CD9DAFFFEFB5179629C1E53C58B2010FDA0E02";
     let foreign = "sha256:2cf24dba5fb0a30e26e83b2ac5b9e29e1b161e5c1fa7425e73043362938b9824";
     let no_text: &[u8] = &[0xff; 71];
-    for (path, content) in [
-        (CURRENT, line.as_bytes()),
-        (CURRENT, capitals.as_bytes()),
-        (CURRENT, &line.as_bytes()[..70]),
-        (CURRENT, b""),
-        (CURRENT, no_text),
-        (CURRENT, foreign.as_bytes()),
-        (REVISION, line.as_bytes()),
-        (REVISION, capitals.as_bytes()),
-        (REVISION, b""),
-        (REVISION, no_text),
-        (REVISION, foreign.as_bytes()),
-        (DATA, b"{}"),
-        (DATA, b""),
+    for (item, content) in [
+        (Item::Current, line.as_bytes()),
+        (Item::Current, capitals.as_bytes()),
+        (Item::Current, &line.as_bytes()[..70]),
+        (Item::Current, b""),
+        (Item::Current, no_text),
+        (Item::Current, foreign.as_bytes()),
+        (Item::Revision, line.as_bytes()),
+        (Item::Revision, capitals.as_bytes()),
+        (Item::Revision, b""),
+        (Item::Revision, no_text),
+        (Item::Revision, foreign.as_bytes()),
+        (Item::Data, b"{}"),
+        (Item::Data, b""),
     ] {
-        let mut broken = Vec::new(alloc);
-        broken.push(file(alloc, path, content)?)?;
-        let mut depot = depot(alloc, broken)?;
+        let mut depot = depot(alloc, MANIFEST.as_bytes(), Some((item, content)))?;
         let found = pulled(alloc, &mut depot)?;
-        assert!(rt; found.is_none(), "with {content:?} at {path}");
+        assert!(rt; found.is_none(), "with {content:?} in {item:?}");
     }
     Ok(())
 }
 
 // The kind of the manifest that `a` has under the digest of some bytes.
 fn kind_of_stored(alloc: Global, bytes: &[u8]) -> Result<Option<Kind>, Fail> {
-    let digest = digest_of(bytes);
-    let text = digest.text(alloc)?;
-    let text = text.as_str();
-    let digits = text.strip_prefix("sha256:").ok_or("no digits")?;
-    let (front, _) = digits.split_at_checked(2).ok_or("no digits")?;
-    let data = format!(in alloc; "docker/registry/v2/blobs/sha256/{front}/{digits}/data")?;
-    let link = format!(in alloc;
-        "docker/registry/v2/repositories/a/_manifests/revisions/sha256/{digits}/link"
-    )?;
-    let mut files = Vec::new(alloc);
-    files.push(file(alloc, link.as_str(), text.as_bytes())?)?;
-    files.push(file(alloc, data.as_str(), bytes)?)?;
-    let mut depot = depot(alloc, files)?;
+    let mut depot = depot(alloc, bytes, None)?;
     let name = Name::read(alloc, "a")?.ok_or("no name")?;
-    Ok(manifest(alloc, &mut depot, &name, &digest)?.map(|found| found.kind))
+    Ok(manifest(alloc, &mut depot, &name, &digest_of(bytes))?.map(|found| found.kind))
 }
 
 // The manifest, with spaces behind it up to a length.
@@ -123,7 +124,7 @@ fn padded(alloc: Global, length: usize) -> Result<Vec<u8>, Fail> {
 }
 
 #[test]
-fn a_manifest_has_a_kind_and_at_most_4_194_304_bytes(rt: HostRuntime) -> Result<(), Fail> {
+fn a_manifest_is_a_document_of_at_most_4_194_304_bytes(rt: HostRuntime) -> Result<(), Fail> {
     let alloc = rt.alloc();
     for (length, kind) in [(4_194_304, Some(Kind::OciImage)), (4_194_305, None)] {
         let bytes = padded(alloc, length)?;
@@ -132,5 +133,9 @@ fn a_manifest_has_a_kind_and_at_most_4_194_304_bytes(rt: HostRuntime) -> Result<
     }
     assert_eq!(rt; kind_of_stored(alloc, b"{}")?, None);
     assert_eq!(rt; kind_of_stored(alloc, b"hello")?, None);
+    let index = br#"{"schemaVersion":2,"manifests":[]}"#;
+    assert_eq!(rt; kind_of_stored(alloc, index)?, Some(Kind::OciIndex));
+    let no_descriptor = br#"{"schemaVersion":2,"manifests":[{}]}"#;
+    assert_eq!(rt; kind_of_stored(alloc, no_descriptor)?, None);
     Ok(())
 }

@@ -1,2 +1,5 @@
 pub mod Objects
-pub mod KindLaws
+pub mod Elements
+pub mod ListLaws
+pub mod FreedomLaws
+pub mod DocumentLaws

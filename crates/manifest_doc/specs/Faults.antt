@@ -1,5 +1,5 @@
 -- What a call that judges bytes may answer.
-use Rattle.std.specs.Prelude.{◌≡◌, Result, Ok, Err, ⊤}
+use Rattle.std.specs.Prelude.{◌≡◌, Bool, if◌then◌else◌, Result, Ok, Err, ⊤}
 use Rattle.manifest_doc.specs.declared.fault.DocFault.{DocFault}
 use Rattle.manifest_doc.specs.declared.fault.DocFault.TheVariants.{NotJson, NoKind, BadDescriptor, TooMany, NoMemory}
 
@@ -11,3 +11,7 @@ GivesOrNoMemory due (Err NoKind) = due ≡ Err NoKind
 GivesOrNoMemory due (Err BadDescriptor) = due ≡ Err BadDescriptor
 GivesOrNoMemory due (Err TooMany) = due ≡ Err TooMany
 GivesOrNoMemory due (Err NoMemory) = ⊤
+
+-- BadDescriptor, where this does not hold
+abbrev pub bad_unless : Bool → Result ⊤ DocFault
+bad_unless holds = if holds then Ok tt else Err BadDescriptor

@@ -1,6 +1,6 @@
--- Which bytes tell the kind of a manifest, and which kind (OCI Image Specification 1.1, "Image Manifest
+-- Which bytes are an object, and which kind of manifest an object is (OCI Image Specification 1.1, "Image Manifest
 -- Specification" and "Image Index Specification"; Docker's manifest schema 2).
-use Rattle.std.specs.Prelude.{ℕ, ◌==◌, ◌&&◌, List, codes, Bool, true, false, if◌then◌else◌, Option, Some, None, is_some, is_none, ok_or, option_and_then, Result, Err}
+use Rattle.std.specs.Prelude.{ℕ, ◌==◌, ◌&&◌, List, codes, Bool, true, false, if◌then◌else◌, Option, Some, None, is_some, is_none, option_and_then}
 use Rattle.std.specs.Option.{option_map_or}
 use Rattle.std.specs.Str.{is_utf8}
 use Rattle.serde_json.specs.Data.{Data}
@@ -9,8 +9,6 @@ use Rattle.serde_json.specs.Find.{get, as_object, as_array, as_str, as_number, a
 use Rattle.reg_names.specs.Kinds.{kind_named}
 use Rattle.reg_names.specs.declared.kind.Kind.{Kind}
 use Rattle.reg_names.specs.declared.kind.Kind.TheVariants.{OciImage, OciIndex, DockerImage, DockerList}
-use Rattle.manifest_doc.specs.declared.fault.DocFault.{DocFault}
-use Rattle.manifest_doc.specs.declared.fault.DocFault.TheVariants.{NotJson, NoKind}
 
 -- ---- the object
 
@@ -73,8 +71,3 @@ has_shape DockerList = is_index
 -- the kind of an object, where it has one
 abbrev pub kind_of_object : Data → Option Kind
 kind_of_object d = if has_version_two d then option_and_then (λ kind. if has_shape kind d then Some kind else None) (kind_told d) else None
-
--- ---- the kind of bytes, or the first test that they fail
-
-unfoldable pub kind_in : List ℕ → Result Kind DocFault
-kind_in bytes = option_map_or (λ d. ok_or (kind_of_object d) NoKind) (object_in bytes) (Err NotJson)

@@ -1,2 +1,5 @@
 pub mod Faults
 pub mod Kinds
+pub mod Descriptors
+pub mod Documents
+pub mod Noting

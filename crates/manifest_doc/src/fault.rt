@@ -1,4 +1,6 @@
 //! Why bytes are no document.
+use reg_names::NoMemory;
+use std::alloc::{AllocError, AllocFailed};
 
 /// The first test that bytes fail, in this order but for `NoMemory`, which may come at any time.
 #[derive(Clone, Copy, Debug, PartialEq, Eq)]
@@ -13,4 +15,37 @@ pub enum DocFault {
     TooMany,
     /// Memory was wanting.
     NoMemory,
+}
+
+impl From<NoMemory> for DocFault {
+    ghost use Rattle.std.specs.Prelude.{◌≡◌};
+    ghost use Rattle.manifest_doc.specs.declared.fault.DocFault.TheVariants as faults;
+
+    ghost from_gives = { λ _ fault. fault ≡ faults.NoMemory };
+
+    fn from(_: NoMemory) -> DocFault {
+        DocFault::NoMemory
+    }
+}
+
+impl From<AllocError> for DocFault {
+    ghost use Rattle.std.specs.Prelude.{◌≡◌};
+    ghost use Rattle.manifest_doc.specs.declared.fault.DocFault.TheVariants as faults;
+
+    ghost from_gives = { λ _ fault. fault ≡ faults.NoMemory };
+
+    fn from(_: AllocError) -> DocFault {
+        DocFault::NoMemory
+    }
+}
+
+impl<T: Drop> From<AllocFailed<T>> for DocFault {
+    ghost use Rattle.std.specs.Prelude.{◌≡◌};
+    ghost use Rattle.manifest_doc.specs.declared.fault.DocFault.TheVariants as faults;
+
+    ghost from_gives = { λ _ fault. fault ≡ faults.NoMemory };
+
+    fn from(_: AllocFailed<T>) -> DocFault {
+        DocFault::NoMemory
+    }
 }

@@ -2,23 +2,15 @@
 ghost use Rattle.std.specs.Prelude.{◌≡◌, IfOk, IfErr, ok_or};
 ghost use Rattle.serde_json.specs.View.{view};
 ghost use Rattle.manifest_doc.specs.Faults.{GivesOrNoMemory};
-ghost use Rattle.manifest_doc.specs.Kinds.{object_in, has_version_two, kind_told, is_image, is_index, has_shape, kind_of_object, kind_in};
+ghost use Rattle.manifest_doc.specs.Kinds.{object_in, has_version_two, kind_told, is_image, is_index, has_shape, kind_of_object};
 
 use crate::DocFault;
 use reg_names::Kind;
 use serde_json::Value;
 use std::alloc::Global;
 
-/// The kind of the document that bytes are, or the first test that they fail.
-pub fn kind_of(alloc: Global, bytes: &[u8]) -> Result<Kind, DocFault>
-    ensures { GivesOrNoMemory (kind_in bytes.now) result }
-{
-    let object = read_object(alloc, bytes)?;
-    kind_of_value(&object).ok_or(DocFault::NoKind)
-}
-
-// The object that the bytes are as JSON.
-fn read_object(alloc: Global, bytes: &[u8]) -> Result<Value, DocFault>
+/// The object that bytes are as JSON.
+pub(crate) fn read_object(alloc: Global, bytes: &[u8]) -> Result<Value, DocFault>
     ensures ok { IfOk result (λ v. object_in bytes.now ≡ Some (view v)) }
     ensures err { IfErr result (λ fault. GivesOrNoMemory (ok_or (object_in bytes.now) DocFault.NotJson) (Err fault)) }
 {
@@ -29,7 +21,8 @@ fn read_object(alloc: Global, bytes: &[u8]) -> Result<Value, DocFault>
     }
 }
 
-fn kind_of_value(object: &Value) -> Option<Kind>
+/// The kind of an object.
+pub(crate) fn kind_of_object(object: &Value) -> Option<Kind>
     ensures { result ≡ kind_of_object (view object.now) }
 {
     if !is_version_two(object) {

@@ -5,12 +5,18 @@
 //! Specification", and of Docker's manifest schema 2; JSON is RFC 8259.
 #![tactic(auto)]
 
+mod descriptors;
+mod document;
 mod fault;
 mod kinds;
-
-pub use fault::DocFault;
-pub use kinds::kind_of;
-pub use reg_names::Kind;
-
+mod laws;
+mod lists;
 #[cfg(test)]
 mod tests;
+
+pub use document::{Doc, read_doc};
+pub use fault::DocFault;
+pub use laws::{
+    bytes_are_one_document, children_are_listed, documents_pass_the_tests, what_is_named_is_held,
+};
+pub use reg_names::{DigestList, Kind, NamedList};
