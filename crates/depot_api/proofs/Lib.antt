@@ -2,3 +2,6 @@ pub mod PathLaws
 pub mod CallLaws
 pub mod FileLaws
 pub mod ReadLaws
+pub mod OrderLaws
+pub mod PageLaws
+pub mod RangeLaws

@@ -1,5 +1,5 @@
 -- What a depot holds: the bytes at each path, or nothing.
-use Rattle.std.specs.Prelude.{ℕ, nat_le, if◌then◌else◌, List, length, Option, Some, None, cond}
+use Rattle.std.specs.Prelude.{ℕ, ◌≤◌, nat_le, if◌then◌else◌, List, length, Option, Some, None, cond, ⊤}
 use Rattle.depot_api.specs.declared.depot.Small.{Small}
 use Rattle.depot_api.specs.declared.depot.Small.TheVariants.{Absent, TooLong, Content}
 use Rattle.depot_api.specs.Paths.{is_at}
@@ -16,3 +16,9 @@ with_at files p w = λ q. cond (is_at p q) w (files q)
 abbrev pub small : ℕ → Option (List ℕ) → Small
 small most None = Absent
 small most (Some bytes) = if nat_le (length bytes) most then Content bytes else TooLong
+
+-- what a read gave has at most so many bytes
+abbrev pub IsUpTo : ℕ → Small → Type 0
+IsUpTo most Absent = ⊤
+IsUpTo most TooLong = ⊤
+IsUpTo most (Content bytes) = length bytes ≤ most

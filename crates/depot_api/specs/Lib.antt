@@ -1,10 +1,13 @@
 pub mod Paths
 pub mod Files
+pub mod Pages
+pub mod Blobs
 pub mod Streams
 pub mod Ids
 pub mod Calls
 pub mod Memory
 pub mod MemDepot
+pub mod MemBlob
 pub mod MemSource
 pub mod MemSink
 pub mod ListedIds

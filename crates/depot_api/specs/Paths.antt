@@ -1,7 +1,8 @@
 -- Paths: parts with slashes between them.
 use Rattle.std.specs.Prelude.{ℕ, Bool, not, ◌&&◌, ◌||◌, ◌==◌, nat_le, nat_eq, List, length, codes, IsTrue}
+use Rattle.std.specs.declared.cmp.Ordering.{Ordering}
 use Rattle.std.specs.Ordering.{is_eq, is_lt, nat_cmp}
-use Rattle.std.specs.List.{list_all, slice_split, join_with_byte}
+use Rattle.std.specs.List.{list_all, slice_split, join_with_byte, starts_with}
 use Rattle.std.specs.Cmp.Lexicographic.{pointwise, slice_cmp}
 
 -- neither a slash nor a NUL
@@ -31,8 +32,15 @@ abbrev pub IsPath : List (List ℕ) → Type 0
 IsPath parts = IsTrue (is_path parts)
 
 -- the order of paths: by parts, and parts by bytes
+abbrev pub path_cmp : List (List ℕ) → List (List ℕ) → Ordering
+path_cmp = slice_cmp (slice_cmp nat_cmp)
+
 abbrev pub is_at : List (List ℕ) → List (List ℕ) → Bool
-is_at p q = is_eq (slice_cmp (slice_cmp nat_cmp) p q)
+is_at p q = is_eq (path_cmp p q)
 
 abbrev pub is_below : List (List ℕ) → List (List ℕ) → Bool
-is_below p q = is_lt (slice_cmp (slice_cmp nat_cmp) p q)
+is_below p q = is_lt (path_cmp p q)
+
+-- the parts of p start with those of `under`; so a path begins with itself
+abbrev pub begins_with : List (List ℕ) → List (List ℕ) → Bool
+begins_with under p = starts_with (pointwise nat_eq) p under

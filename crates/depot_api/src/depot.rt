@@ -1,10 +1,12 @@
 //! Files under paths.
-ghost use Rattle.std.specs.Prelude.{◌≡◌, ℕ, Bool, IsTrue, IfOk, IsErrOf};
+ghost use Rattle.std.specs.Prelude.{◌≡◌, ℕ, ◌^◌, ◌<◌, ◌≤◌, Bool, List, Option, length, vec_len, IsTrue, IfOk, IfSome, IsErrOf};
+ghost use Rattle.std.specs.Option.{option_map};
 ghost use Rattle.reg_names.specs.Cause.{HasCause};
 ghost use Rattle.reg_names.specs.declared.refused.Refused.TheVariants as refusals;
-ghost use Rattle.depot_api.specs.Files.{Files, small};
+ghost use Rattle.depot_api.specs.Files.{Files, small, IsUpTo};
+ghost use Rattle.depot_api.specs.Pages.{IsPage, Ascends};
 
-use crate::Path;
+use crate::{Blob, Path};
 use reg_names::{Bytes, Refused};
 use std::alloc::Global;
 
@@ -19,10 +21,19 @@ pub enum Small {
     Content(Bytes),
 }
 
-/// A map from paths to the bytes of files.
+/// A page is the only one: two pages of the same files, from the same start and of the same length, are equal.
+pub fn pages_agree()
+    ensures { (files : Files) (under : List (List ℕ)) (after : Option (List (List ℕ))) (most : ℕ) (one two : List (List (List ℕ))) → IsPage files under after most one → IsPage files under after most two → one ≡ two }
+{}
+
+/// A map from paths to the bytes of files, each of at most 2^62 bytes.
 ///
 /// A depot may not tell what it holds, as a real directory does not. Clauses on content speak of depots that tell.
+/// No call here changes a file, also where it fails or finds no memory.
 pub trait Depot {
+    /// A file that is read in pieces. It is given back by `done`.
+    type B: Blob;
+
     /// Whether it tells what it holds. No call changes that.
     ghost tells: { Self → Bool };
 
@@ -32,10 +43,50 @@ pub trait Depot {
     /// How often it has failed. No call makes it fall.
     ghost faults: { Self → ℕ };
 
-    /// The bytes of a file that has at most `most` of them.
-    fn read_small(&mut self, alloc: Global, at: &Path, most: u64) -> Result<Small, Refused>
-        ensures value { IsTrue (tells self.old) → IfOk result (λ r. r ≡ small most (files self.old at.now)) }
+    /// How many bytes a file has, at most 2^62, and `None` exactly where there is none.
+    fn size(&mut self, alloc: Global, at: &Path) -> Result<Option<u64>, Refused>
+        ensures value { IsTrue (tells self.old) → IfOk result (λ size. size ≡ option_map length (files self.old at.now)) }
+        ensures most { IfOk result (λ size. IfSome size (λ n. n ≤ 2 ^ 62)) }
         ensures files { files self.new ≡ files self.old }
         ensures tells { tells self.new ≡ tells self.old }
         ensures cause { HasCause (faults self.old) (faults self.new) (IsErrOf result refusals.Failed) };
+
+    /// The bytes of a file that has at most `most` of them.
+    fn read_small(&mut self, alloc: Global, at: &Path, most: u64) -> Result<Small, Refused>
+        ensures value { IsTrue (tells self.old) → IfOk result (λ r. r ≡ small most (files self.old at.now)) }
+        ensures most { IfOk result (IsUpTo most) }
+        ensures files { files self.new ≡ files self.old }
+        ensures tells { tells self.new ≡ tells self.old }
+        ensures cause { HasCause (faults self.old) (faults self.new) (IsErrOf result refusals.Failed) };
+
+    /// A file, to be read in pieces, and `None` exactly where there is none. The blob has had no fault.
+    fn fetch(&mut self, alloc: Global, at: &Path) -> Result<Option<Self::B>, Refused>
+        ensures value { IsTrue (tells self.old) → IfOk result (λ found. option_map Self.B.bytes found ≡ files self.old at.now) }
+        ensures telling { IfOk result (λ found. IfSome found (λ blob. Self.B.tells blob ≡ tells self.old)) }
+        ensures fresh { IfOk result (λ found. IfSome found (λ blob. Self.B.faults blob ≡ 0)) }
+        ensures files { files self.new ≡ files self.old }
+        ensures tells { tells self.new ≡ tells self.old }
+        ensures cause { HasCause (faults self.old) (faults self.new) (IsErrOf result refusals.Failed) };
+
+    /// The first `most` paths of files, in the order of paths, that begin with the parts of `under` and are above
+    /// `after`. The path `under` begins with itself. There are fewer exactly where no more follow.
+    fn page(
+        &mut self,
+        alloc: Global,
+        under: &Path,
+        after: Option<&Path>,
+        most: usize,
+    ) -> Result<Vec<Path>, Refused>
+        ensures value { IsTrue (tells self.old) → IfOk result (λ page. IsPage (files self.old) under.now (option_map (λ a. a.now) after.entry) most page.items) }
+        ensures most { IfOk result (λ page. vec_len page ≤ most) }
+        ensures order { IfOk result (λ page. Ascends under.now (option_map (λ a. a.now) after.entry) page.items) }
+        ensures files { files self.new ≡ files self.old }
+        ensures tells { tells self.new ≡ tells self.old }
+        ensures cause { HasCause (faults self.old) (faults self.new) (IsErrOf result refusals.Failed) };
+
+    /// Ends a blob. The faults that it has had count as a fault of the depot. Takes no memory, and cannot fail.
+    fn done(&mut self, blob: Self::B)
+        ensures files { files self.new ≡ files self.old }
+        ensures tells { tells self.new ≡ tells self.old }
+        ensures cause { HasCause (faults self.old) (faults self.new) (0 < Self.B.faults blob) };
 }

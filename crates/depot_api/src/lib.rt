@@ -5,6 +5,7 @@
 //! The trees of files are those of the Distribution registry's storage layout.
 #![tactic(auto)]
 
+mod blob;
 mod clock;
 mod depot;
 mod ids;
@@ -12,8 +13,9 @@ pub mod memory;
 mod path;
 mod stream;
 
+pub use blob::{Blob, BlobFault};
 pub use clock::Clock;
-pub use depot::{Depot, Small};
+pub use depot::{Depot, Small, pages_agree};
 pub use ids::Ids;
 pub use path::{Part, Path};
 pub use reg_names::{Bytes, NoMemory, Refused, Text};

@@ -1,9 +1,9 @@
 //! Paths of files.
-ghost use Rattle.std.specs.Prelude.{◌≡◌, ◌||◌, ℕ, nat_eq, List, codes, IfOk, MatchOption};
+ghost use Rattle.std.specs.Prelude.{◌≡◌, ◌↔◌, ◌||◌, ◌++◌, ℕ, nat_eq, List, codes, IfOk, IsTrue, MatchOption};
 ghost use Rattle.std.specs.List.{list_all};
 ghost use Rattle.std.specs.Cmp.Lexicographic.{pointwise};
 ghost use Rattle.reg_names.specs.Reading.{ReadsExactly};
-ghost use Rattle.depot_api.specs.Paths.{is_part_byte, is_part, IsPart, IsPath, parts_of, path_text};
+ghost use Rattle.depot_api.specs.Paths.{is_part_byte, is_part, IsPart, IsPath, parts_of, path_text, begins_with};
 
 use reg_names::{NoMemory, Text};
 use std::alloc::Global;
@@ -54,6 +54,21 @@ impl Part {
         ensures part { IsPart self.now }
     {
         self.text.as_str()
+    }
+
+    /// The text of parts, with slashes between them.
+    pub fn join(alloc: Global, parts: &[Part]) -> Result<Text, NoMemory>
+        ensures { IfOk result (λ t. t ≡ path_text parts.now) }
+    {
+        let Some((first, rest)) = parts.split_first() else {
+            return Ok(Text::from_string(String::new(alloc)));
+        };
+        let mut text = String::from_str(alloc, first.as_str())?;
+        for part in rest {
+            text.push_str("/")?;
+            text.push_str(part.as_str())?;
+        }
+        Ok(Text::from_string(text))
     }
 }
 
@@ -119,15 +134,7 @@ impl Path {
     pub fn text(&self, alloc: Global) -> Result<Text, NoMemory>
         ensures { IfOk result (λ t. t ≡ path_text self.now) }
     {
-        let Some((first, rest)) = self.parts.split_first() else {
-            return Ok(Text::from_string(String::new(alloc)));
-        };
-        let mut text = String::from_str(alloc, first.as_str())?;
-        for part in rest {
-            text.push_str("/")?;
-            text.push_str(part.as_str())?;
-        }
-        Ok(Text::from_string(text))
+        Part::join(alloc, &self.parts)
     }
 
     /// An equal path.
@@ -144,6 +151,18 @@ impl Path {
     /// What `text` wrote reads back: the parts of a path's text are the path.
     pub fn text_reads_back()
         ensures { (p : List (List ℕ)) → IsPath p → parts_of (path_text p) ≡ p }
+    {}
+
+    /// Whether the path's first parts are those of `under`. A path begins with itself.
+    pub fn begins_with(&self, under: &Path) -> bool
+        ensures { result ≡ begins_with under.now self.now }
+    {
+        self.parts.starts_with(&under.parts)
+    }
+
+    /// A path begins with another exactly where more parts, or none, make the other that path.
+    pub fn begins_with_is_a_prefix()
+        ensures { (under p : List (List ℕ)) → IsTrue (begins_with under p) ↔ ((rest : List (List ℕ)) × (p ≡ under ++ rest)) }
     {}
 
     /// The parts, from the first to the last.

@@ -1,8 +1,9 @@
 //! Paths just inside and outside their rule, and each device in memory on its way and failing.
 
-use crate::memory::{FixedClock, ListedIds, MemDepot, MemSink, MemSource};
+use crate::memory::{FixedClock, ListedIds, MemBlob, MemDepot, MemSink, MemSource};
 use crate::{
-    Bytes, Clock, Depot, Ids, NoMemory, Path, Refused, Sink, SinkFault, Small, Source, SourceFault,
+    Blob, BlobFault, Bytes, Clock, Depot, Ids, NoMemory, Path, Refused, Sink, SinkFault, Small,
+    Source, SourceFault,
 };
 use std::alloc::{AllocError, Global};
 use std::test::Fail;
@@ -136,6 +137,174 @@ fn reads_small_files(rt: HostRuntime) -> Result<(), Fail> {
             assert_eq!(rt; matches!(read, Err(Refused::Failed)), number == failing);
             assert_eq!(rt; depot.faults(), u64::from(failing <= number));
         }
+    }
+    Ok(())
+}
+
+#[test]
+fn measures_files(rt: HostRuntime) -> Result<(), Fail> {
+    let mut depot = small_depot(rt.alloc(), &[])?;
+    for (at, size) in [
+        ("a", Some(5)),
+        ("a/b", Some(0)),
+        ("b", None),
+        ("a/b/c", None),
+    ] {
+        let found = depot.size(rt.alloc(), &path(rt.alloc(), at)?)?;
+        assert_eq!(rt; found, size, "{at}");
+    }
+    let absent = depot.fetch(rt.alloc(), &path(rt.alloc(), "b")?)?;
+    assert!(rt; absent.is_none());
+    Ok(())
+}
+
+// The blob of a file that is there.
+fn lent(alloc: Global, depot: &mut MemDepot, at: &str) -> Result<MemBlob, Fail> {
+    Ok(depot.fetch(alloc, &path(alloc, at)?)?.ok_or("no file")?)
+}
+
+#[test]
+fn reads_a_blob_in_pieces(rt: HostRuntime) -> Result<(), Fail> {
+    let table: [(&str, usize, &[(usize, u64)], &str); 6] = [
+        ("a", 8, &[(5, 0), (0, 0)], "three"),
+        ("a", 5, &[(5, 0), (0, 0)], "three"),
+        ("a", 2, &[(2, 3), (2, 1), (1, 0), (0, 0)], "three"),
+        (
+            "a",
+            1,
+            &[(1, 4), (1, 3), (1, 2), (1, 1), (1, 0), (0, 0)],
+            "three",
+        ),
+        ("a", 0, &[(0, 5), (0, 5)], ""),
+        ("a/b", 8, &[(0, 0)], ""),
+    ];
+    for (at, room, reads, content) in table {
+        let mut depot = small_depot(rt.alloc(), &[])?;
+        let mut blob = lent(rt.alloc(), &mut depot, at)?;
+        let mut bytes = Vec::new(rt.alloc());
+        for (length, left) in reads {
+            let mut into = [0; 8];
+            let given = blob.read(into.get_mut(..room).ok_or("too much room")?)?;
+            assert_eq!(rt; given, *length, "{at}");
+            assert_eq!(rt; blob.left(), *left, "{at}");
+            bytes.extend_from_slice(into.get(..given).ok_or("past the room")?)?;
+        }
+        assert_eq!(rt; bytes.as_slice(), content.as_bytes());
+        depot.done(blob);
+        assert_eq!(rt; depot.faults(), 0);
+    }
+    Ok(())
+}
+
+#[test]
+fn fails_a_read_of_a_blob(rt: HostRuntime) -> Result<(), Fail> {
+    for failing in 0..5 {
+        let depot = small_depot(rt.alloc(), &[])?;
+        let mut depot = depot.failing_reads([failing].to_vec(rt.alloc())?);
+        let mut blob = lent(rt.alloc(), &mut depot, "a")?;
+        for (number, text) in [(0, "th"), (1, "re"), (2, "e")] {
+            let mut into = [0; 2];
+            if number == failing {
+                assert_eq!(rt; blob.read(&mut into), Err(BlobFault));
+            }
+            let given = blob.read(&mut into)?;
+            assert_eq!(rt; into.get(..given), Some(text.as_bytes()));
+        }
+        let had = u64::from(failing < 3);
+        assert_eq!(rt; blob.faults(), had);
+        assert_eq!(rt; depot.faults(), 0);
+        depot.done(blob);
+        assert_eq!(rt; depot.faults(), had);
+        let unread = lent(rt.alloc(), &mut depot, "a")?;
+        depot.done(unread);
+        assert_eq!(rt; depot.faults(), had);
+    }
+    Ok(())
+}
+
+// Files at these paths, in the order of paths.
+const SHELF: [&str; 6] = ["a", "a/b", "a/b/c", "a.b", "ab", "b/a"];
+
+fn shelf(alloc: Global, fail: &[u64]) -> Result<MemDepot, Fail> {
+    let mut files = Vec::new(alloc);
+    for at in SHELF {
+        files.push((path(alloc, at)?, Bytes::from_slice(alloc, b"")?))?;
+    }
+    Ok(MemDepot::new(alloc, files, fail.to_vec(alloc)?)?)
+}
+
+// The paths of a page, with spaces between them.
+fn paged(
+    alloc: Global,
+    depot: &mut MemDepot,
+    under: &str,
+    after: Option<&str>,
+    most: usize,
+) -> Result<String, Fail> {
+    let under = path(alloc, under)?;
+    let page = match after {
+        Some(after) => depot.page(alloc, &under, Some(&path(alloc, after)?), most)?,
+        None => depot.page(alloc, &under, None, most)?,
+    };
+    let mut text = String::new(alloc);
+    for path in page {
+        if !text.is_empty() {
+            text.push_str(" ")?;
+        }
+        text.push_str(path.text(alloc)?.as_str())?;
+    }
+    Ok(text)
+}
+
+#[test]
+fn pages_go_on_above_any_path(rt: HostRuntime) -> Result<(), Fail> {
+    // Under which path, above which, and the page of at most 0, 1, 2 and 9 paths.
+    let table = [
+        ("a", None, ["", "a", "a a/b", "a a/b a/b/c"]),
+        ("a", Some("A"), ["", "a", "a a/b", "a a/b a/b/c"]),
+        ("a", Some("a"), ["", "a/b", "a/b a/b/c", "a/b a/b/c"]),
+        ("a", Some("a/a"), ["", "a/b", "a/b a/b/c", "a/b a/b/c"]),
+        ("a", Some("a/b"), ["", "a/b/c", "a/b/c", "a/b/c"]),
+        ("a", Some("a/b/c"), ["", "", "", ""]),
+        ("a", Some("a.b"), ["", "", "", ""]),
+        ("a/b", None, ["", "a/b", "a/b a/b/c", "a/b a/b/c"]),
+        ("a/b", Some("a"), ["", "a/b", "a/b a/b/c", "a/b a/b/c"]),
+        ("a/b", Some("a/b"), ["", "a/b/c", "a/b/c", "a/b/c"]),
+        ("a.b", Some("a/b/c"), ["", "a.b", "a.b", "a.b"]),
+        ("ab", Some("a"), ["", "ab", "ab", "ab"]),
+        ("b", Some("b"), ["", "b/a", "b/a", "b/a"]),
+        ("b", Some("c"), ["", "", "", ""]),
+        ("aa", None, ["", "", "", ""]),
+        ("a/b/c/d", None, ["", "", "", ""]),
+    ];
+    let mut depot = shelf(rt.alloc(), &[])?;
+    for (under, after, pages) in table {
+        for (most, page) in [0, 1, 2, 9].into_iter().zip(pages) {
+            let found = paged(rt.alloc(), &mut depot, under, after, most)?;
+            assert_eq!(rt; found.as_str(), page, "{under} {most}");
+        }
+    }
+    Ok(())
+}
+
+#[test]
+fn fails_any_call_of_a_depot(rt: HostRuntime) -> Result<(), Fail> {
+    let at = path(rt.alloc(), "a")?;
+    for failing in 0..6 {
+        let mut depot = small_depot(rt.alloc(), &[failing])?;
+        let sized = depot.size(rt.alloc(), &at);
+        assert_eq!(rt; matches!(sized, Err(Refused::Failed)), failing == 0);
+        let fetched = depot.fetch(rt.alloc(), &at);
+        assert_eq!(rt; matches!(fetched, Err(Refused::Failed)), failing == 1);
+        if let Ok(Some(blob)) = fetched {
+            depot.done(blob);
+        }
+        let page = depot.page(rt.alloc(), &at, None, 1);
+        assert_eq!(rt; matches!(page, Err(Refused::Failed)), failing == 2);
+        let small = depot.read_small(rt.alloc(), &at, 9);
+        assert_eq!(rt; matches!(small, Err(Refused::Failed)), failing == 3);
+        assert_eq!(rt; depot.faults(), u64::from(failing < 4));
+        assert_eq!(rt; depot.size(rt.alloc(), &at).is_err(), failing == 4);
     }
     Ok(())
 }

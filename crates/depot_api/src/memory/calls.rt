@@ -1,6 +1,6 @@
 //! Calls that are counted, some of which fail.
 ghost use Rattle.std.specs.Prelude.{◌≡◌};
-ghost use Rattle.depot_api.specs.Calls.{no_calls, fails, with_call};
+ghost use Rattle.depot_api.specs.Calls.{no_calls, fails, with_call, with_fault};
 
 use std::marker::Model;
 
@@ -67,6 +67,13 @@ impl Calls {
         ensures { self.new ≡ with_call self.old failed }
     {
         self.made = self.made.saturating_add(1);
+        self.count_fault(failed);
+    }
+
+    /// Counts a fault, where there was one, but no call.
+    pub fn count_fault(&mut self, failed: bool)
+        ensures { self.new ≡ with_fault self.old failed }
+    {
         if failed {
             self.faults = self.faults.saturating_add(1);
         }

@@ -1,6 +1,6 @@
 use Rattle.std.proofs.Common.{◌<◌, length, arith, ◌∙◌}
 use Rattle.depot_api.proofs.PathLaws.{path_text-pushed}
-use Rattle.depot_api.proofs.path.Path.text.Goals as goal
+use Rattle.depot_api.proofs.path.Part.join.Goals as goal
 
 pub loop-part-preserved : goal.loop-part-preserved
 loop-part-preserved c =

@@ -1,8 +1,0 @@
-use Rattle.std.proofs.Common.{◌≡◌, ◌∷◌, drop}
-use Rattle.std.specs.String.{string_bytes}
-use Rattle.depot_api.specs.Paths.{path_text}
-use Rattle.depot_api.proofs.path.Path.text.Given as goal
-
--- the text so far and the parts that are left make the path's text
-abbrev pub invariant-loop-part : goal.invariant-loop-part
-invariant-loop-part l = path_text (string_bytes l.text ∷ drop l.part-index l.rest) ≡ path_text l.fn.self
