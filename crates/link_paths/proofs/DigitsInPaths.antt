@@ -1,30 +1,21 @@
 -- The digits of a digest in paths.
-use Rattle.std.proofs.Common.{◌≡◌, ℕ, zero, suc, ◌<◌, ◌≤◌, ◌==◌, ◌/◌, ◌%◌, true, false, List, [], ◌∷◌, length, take, Ok, refl, sym, ap, ◌∙◌, arith}
+use Rattle.std.proofs.Common.{◌≡◌, ℕ, zero, suc, ◌<◌, ◌≤◌, ◌==◌, ◌/◌, ◌%◌, true, false, List, [], ◌∷◌, length, take, refl, sym, ap, ◌∙◌, arith}
 use Rattle.std.specs.Prelude.{slice_index}
 use Rattle.std.specs.List.{list_all}
 use Rattle.std.proofs.lemmas.Bool.{and_parts, and_from, agree_below_at}
 use Rattle.std.proofs.lemmas.List.{length-take}
-use Rattle.hex.specs.Hex.{encode_lower, encode_with, lower_digits, decode_sized}
-use Rattle.hex.proofs.HexLemmas.{length-encode_with, decode_sized-encode_lower}
+use Rattle.hex.specs.Hex.{encode_lower, encode_with, lower_digits}
+use Rattle.hex.proofs.HexLemmas.{length-encode_with}
 use Rattle.reg_names.specs.Digests.{AreBytes, IsDigest}
 use Rattle.depot_api.specs.Paths.{is_part_byte, is_part}
 use Rattle.link_paths.proofs.ArePaths.{is_led, IsPart-led}
 use Rattle.link_paths.specs.Places.{digits}
 
--- one digest has these digits
-pub same_digest : (d e : List ℕ) → IsDigest d → IsDigest e → digits d ≡ digits e → d ≡ e
-same_digest d e h k same =
-    let raws : encode_lower h.raw ≡ encode_lower k.raw = sym (ap digits h.is) ∙ same ∙ ap digits k.is in
-    let read : decode_sized (encode_lower h.raw) 32 ≡ decode_sized (encode_lower k.raw) 32 = ap (λ text. decode_sized text 32) raws in
-    let raw : Ok h.raw ≡ Ok k.raw = sym (decode_sized-encode_lower h.raw 32 h.long h.bytes) ∙ read ∙ decode_sized-encode_lower k.raw 32 k.long k.bytes in
-    let is : h.raw ≡ k.raw = cc raw in
-    h.is ∙ ap (λ raw. 1 ∷ raw) is ∙ sym k.is
-
 -- each digit is a byte of a part
 digit_is_part_byte : (k : ℕ) → k < 16 → is_part_byte (slice_index lower_digits k) ≡ true
 digit_is_part_byte k below = agree_below_at (λ d. is_part_byte (slice_index lower_digits d)) (λ _. true) 16 k refl below
 
-part_bytes : (raw : List ℕ) → AreBytes raw → list_all is_part_byte (encode_lower raw) ≡ true
+pub part_bytes : (raw : List ℕ) → AreBytes raw → list_all is_part_byte (encode_lower raw) ≡ true
 unfolding encode_with
 part_bytes [] h = refl
 part_bytes (b ∷ raw) h =
@@ -35,9 +26,9 @@ part_bytes (b ∷ raw) h =
 digit_is_no_dot : (k : ℕ) → k < 16 → (slice_index lower_digits k == 46) ≡ false
 digit_is_no_dot k below = agree_below_at (λ d. slice_index lower_digits d == 46) (λ _. false) 16 k refl below
 
-led : (raw : List ℕ) → length raw ≡ 32 → AreBytes raw → is_led (encode_lower raw) ≡ true
+pub led : (raw : List ℕ) → 1 ≤ length raw → AreBytes raw → is_led (encode_lower raw) ≡ true
 unfolding encode_with
-led [] long h = cc long
+led [] long h = absurd (omega (arith, long))
 led (b ∷ raw) long h =
     let byte : b < 256 = h 0 in
     rw (digit_is_no_dot (b / 16) (omega arith)) refl
@@ -57,13 +48,13 @@ length-digits digest h = rw h.is (omega (arith, length-encode_with lower_digits 
 pub IsPart-digits : (digest : List ℕ) → IsDigest digest → is_part (digits digest) ≡ true
 IsPart-digits digest h =
     let long : length (encode_lower h.raw) ≤ 255 = omega (arith, length-encode_with lower_digits h.raw, h.long) in
-    rw h.is (IsPart-led (encode_lower h.raw) (led h.raw h.long h.bytes) (part_bytes h.raw h.bytes) long)
+    rw h.is (IsPart-led (encode_lower h.raw) (led h.raw (omega (arith, h.long)) h.bytes) (part_bytes h.raw h.bytes) long)
 
 pub IsPart-first_digits : (digest : List ℕ) → IsDigest digest → is_part (take 2 (digits digest)) ≡ true
 IsPart-first_digits digest h =
     let text = encode_lower h.raw in
     let short : length (take 2 text) ≤ 255 = omega (arith, length-take 2 text) in
-    rw h.is (IsPart-led (take 2 text) (is_led-take 1 text (led h.raw h.long h.bytes)) (list_all-take 2 text (part_bytes h.raw h.bytes)) short)
+    rw h.is (IsPart-led (take 2 text) (is_led-take 1 text (led h.raw (omega (arith, h.long)) h.bytes)) (list_all-take 2 text (part_bytes h.raw h.bytes)) short)
 
 -- the first two are those of the first byte
 take-digits : (raw : List ℕ) → encode_lower (take 1 raw) ≡ take 2 (encode_lower raw)

@@ -1,7 +1,12 @@
 pub mod Parts
 pub mod ArePaths
-pub mod NamesInPaths
 pub mod NameParts
 pub mod TagsInPaths
 pub mod DigitsInPaths
-pub mod PlacePaths
+pub mod IdsInPaths
+pub mod HiddenParts
+pub mod PlaceParts
+pub mod ReadPlaces
+pub mod ApartPlaces
+pub mod FrontPlaces
+pub mod PathOrder

@@ -1,17 +1,23 @@
 -- The components of a name are parts of a path.
-use Rattle.std.proofs.Common.{◌≡◌, ℕ, suc, ◌≤◌, ◌&&◌, ◌||◌, ◌==◌, Bool, true, false, not, cond, List, [], ◌∷◌, length, nat_le, inl, inr, refl, arith}
-use Rattle.std.specs.List.{list_all, onto_first}
+use Rattle.std.proofs.Common.{◌≡◌, ℕ, suc, ◌≤◌, ◌&&◌, ◌||◌, ◌==◌, Bool, true, false, cond, List, [], ◌∷◌, length, nat_le, inl, inr, refl, arith}
+use Rattle.std.specs.List.{list_all, list_any, onto_first}
 use Rattle.std.proofs.lemmas.Bool.{and_parts, and_from, cond_both, or_cases, eqb-true, le-leb, leb-true, false≢true}
 use Rattle.std.proofs.lemmas.Bool.Decides.{nat_tests}
 use Rattle.reg_names.specs.Names.{is_alphanumeric, begins, goes_on, underscored, dashed, IsName}
 use Rattle.depot_api.specs.Paths.{parts_of, is_part_byte, is_part}
+use Rattle.link_paths.specs.Folders.{is_hidden}
 use Rattle.link_paths.proofs.Parts.{IsCut, IsCut-parts_of}
 use Rattle.link_paths.proofs.ArePaths.{is_led, IsPart-led}
 
 -- ---- how each begins, and of which bytes it is
 
+-- a letter or digit first
+abbrev is_begun : List ℕ → Bool
+is_begun [] = false
+is_begun (b ∷ bs) = is_alphanumeric b
+
 abbrev is_component : List ℕ → Bool
-is_component part = is_led part && list_all is_part_byte part
+is_component part = is_begun part && list_all is_part_byte part
 
 -- the first goes on, and the others begin
 abbrev goes_on_in_parts : List (List ℕ) → Bool
@@ -34,14 +40,13 @@ on_letter x (first ∷ rest) letter h =
     let both = and_parts (list_all is_part_byte first) (list_all is_component rest) h in
     let other : (x == 47) ≡ false = grind (arith, nat_tests) in
     let byte : is_part_byte x ≡ true = grind (arith, nat_tests) in
-    let begun : not (x == 46) ≡ true = grind (arith, nat_tests) in
-    rw other (and_from _ _ (and_from _ _ begun (and_from _ _ byte both.0)) both.1)
+    rw other (and_from _ _ (and_from _ _ letter (and_from _ _ byte both.0)) both.1)
 
 begun_goes_on : (parts : List (List ℕ)) → IsCut parts → list_all is_component parts ≡ true → goes_on_in_parts parts ≡ true
 begun_goes_on [] cut h = cc (cut.is)
 begun_goes_on (first ∷ rest) cut h =
     let both = and_parts (is_component first) (list_all is_component rest) h in
-    and_from _ _ (and_parts (is_led first) (list_all is_part_byte first) both.0).1 both.1
+    and_from _ _ (and_parts (is_begun first) (list_all is_part_byte first) both.0).1 both.1
 
 -- what each state of the scan shows of the parts to come
 record Scanned (text : List ℕ) : Type 0 where
@@ -128,21 +133,38 @@ all_short : (m n : ℕ) (parts : List (List ℕ)) → m ≤ n → AreShort m n p
 all_short m n [] below h = refl
 all_short m n (first ∷ rest) below h = and_from _ _ (le-leb (length first) n (omega (arith, h.0))) h.1
 
--- ---- so each is a part
+-- ---- so each is a part, and none begins with an underscore
+
+is_led-begun : (part : List ℕ) → is_begun part ≡ true → is_led part ≡ true
+is_led-begun [] h = h
+is_led-begun (b ∷ bs) h = grind (arith, nat_tests)
+
+begun_is_open : (part : List ℕ) → is_begun part ≡ true → is_hidden part ≡ false
+begun_is_open [] h = refl
+begun_is_open (b ∷ bs) h = grind (arith, nat_tests)
+
+all_open : (parts : List (List ℕ)) → list_all is_component parts ≡ true → list_any is_hidden parts ≡ false
+all_open [] h = refl
+all_open (part ∷ parts) h =
+    let both = and_parts (is_component part) (list_all is_component parts) h in
+    rw (begun_is_open part (and_parts (is_begun part) (list_all is_part_byte part) both.0).0, all_open parts both.1) refl
 
 all_parts : (parts : List (List ℕ)) → list_all is_component parts ≡ true → list_all (λ part. nat_le (length part) 255) parts ≡ true → list_all is_part parts ≡ true
 all_parts [] h k = refl
 all_parts (part ∷ parts) h k =
     let here = and_parts (is_component part) (list_all is_component parts) h in
     let below = and_parts (nat_le (length part) 255) (list_all (λ part. nat_le (length part) 255) parts) k in
-    let bytes = and_parts (is_led part) (list_all is_part_byte part) here.0 in
-    and_from _ _ (IsPart-led part bytes.0 bytes.1 (leb-true (length part) 255 below.0)) (all_parts parts here.1 below.1)
+    let bytes = and_parts (is_begun part) (list_all is_part_byte part) here.0 in
+    and_from _ _ (IsPart-led part (is_led-begun part bytes.0) bytes.1 (leb-true (length part) 255 below.0)) (all_parts parts here.1 below.1)
 
 pub name_parts : (name : List ℕ) → IsName name → list_all is_part (parts_of name) ≡ true
 name_parts name h =
     let both = and_parts (nat_le (length name) 255) (begins name) h in
     let long = leb-true (length name) 255 both.0 in
     all_parts (parts_of name) ((scanned name).begin both.1) (all_short (length name) 255 (parts_of name) long (short 255 name long))
+
+pub name_is_open : (name : List ℕ) → IsName name → list_any is_hidden (parts_of name) ≡ false
+name_is_open name h = all_open (parts_of name) ((scanned name).begin (and_parts (nat_le (length name) 255) (begins name) h).1)
 
 pub name_length : (name : List ℕ) → IsName name → length name ≤ 255
 name_length name h = leb-true (length name) 255 (and_parts (nat_le (length name) 255) (begins name) h).0

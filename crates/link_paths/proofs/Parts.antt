@@ -57,11 +57,3 @@ IsOnePart-from_bytes (x ∷ text) h =
 
 pub parts_of-one : (part rest : List ℕ) → IsOnePart part → parts_of (part ++ 47 ∷ rest) ≡ part ∷ parts_of rest
 parts_of-one part rest h = parts_of-append part rest ∙ ap (λ parts. parts ++ parts_of rest) h
-
--- a first part is known by the text, and so is what follows it
-pub same_first : (part other rest tail : List ℕ) → IsOnePart part → IsOnePart other → part ++ 47 ∷ rest ≡ other ++ 47 ∷ tail → (part ≡ other) × (rest ≡ tail)
-same_first part other rest tail h k e =
-    let cut : part ∷ parts_of rest ≡ other ∷ parts_of tail = sym (parts_of-one part rest h) ∙ ap parts_of e ∙ parts_of-one other tail k in
-    let same : part ≡ other = cc in
-    let after : parts_of rest ≡ parts_of tail = cc in
-    (same, same_text rest tail after)

@@ -1,24 +1,52 @@
 //! Laws of places.
-ghost use Rattle.std.specs.Prelude.{◌≡◌, ◌≢◌, List, ℕ};
+ghost use Rattle.std.specs.Prelude.{◌≡◌, ◌⊎◌, ℕ, ◌++◌, List, [], ◌∷◌, IsTrue, codes};
+ghost use Rattle.std.specs.Ordering.{is_lt, nat_cmp};
+ghost use Rattle.std.specs.Cmp.Lexicographic.{slice_cmp};
 ghost use Rattle.reg_names.specs.Names.{IsName};
 ghost use Rattle.reg_names.specs.Tags.{IsTag};
 ghost use Rattle.reg_names.specs.Digests.{IsDigest};
-ghost use Rattle.depot_api.specs.Paths.{IsPath};
-ghost use Rattle.link_paths.specs.Places.{data_path, revision_path, tag_path};
+ghost use Rattle.depot_api.specs.Paths.{IsPath, is_below};
+ghost use Rattle.link_paths.specs.Places.{digits, layer_path, revision_path, tag_path, tag_index_path, place_path, IsPlace};
+ghost use Rattle.link_paths.specs.Folders.{repository_front, tags_front, revisions_front, layers_front, digest_link, place_parts, IsRevisionOf, IsTagOf, IsLayerOf, IsUploadOf};
+ghost use Rattle.link_paths.specs.declared.place.Place.{Place};
 
 /// Each place is where a file may lie.
 pub fn places_are_paths()
-    ensures data { (digest : List ℕ) → IsDigest digest → IsPath (data_path digest) }
-    ensures revision { (name digest : List ℕ) → IsName name → IsDigest digest → IsPath (revision_path name digest) }
-    ensures tag { (name tag : List ℕ) → IsName name → IsTag tag → IsPath (tag_path name tag) }
+    ensures { (place : Place) → IsPlace place → IsPath (place_path place) }
 {}
 
 /// No two places have one path.
 pub fn places_are_apart()
-    ensures data { (d e : List ℕ) → IsDigest d → IsDigest e → data_path d ≡ data_path e → d ≡ e }
-    ensures revision { (m n d e : List ℕ) → IsName m → IsName n → IsDigest d → IsDigest e → revision_path m d ≡ revision_path n e → (m ≡ n) × (d ≡ e) }
-    ensures tag { (m n t u : List ℕ) → IsName m → IsName n → IsTag t → IsTag u → tag_path m t ≡ tag_path n u → (m ≡ n) × (t ≡ u) }
-    ensures data_or_revision { (n d e : List ℕ) → data_path d ≢ revision_path n e }
-    ensures data_or_tag { (n d t : List ℕ) → data_path d ≢ tag_path n t }
-    ensures revision_or_tag { (m n d t : List ℕ) → IsName m → IsName n → revision_path m d ≢ tag_path n t }
+    ensures { (p q : Place) → IsPlace p → IsPlace q → place_path p ≡ place_path q → p ≡ q }
+{}
+
+/// The parts of each place's path.
+pub fn places_by_parts()
+    ensures { (place : Place) → IsPlace place → place_path place ≡ place_parts place }
+{}
+
+/// What a repository keeps lies below its folders.
+pub fn places_begin_with_folders()
+    ensures tag { (name tag : List ℕ) → IsName name → IsTag tag → tag_path name tag ≡ tags_front name ++ tag ∷ codes "current" ∷ codes "link" ∷ [] }
+    ensures tag_index { (name tag digest : List ℕ) → IsName name → IsTag tag → IsDigest digest → tag_index_path name tag digest ≡ tags_front name ++ tag ∷ codes "index" ∷ digest_link digest }
+    ensures revision { (name digest : List ℕ) → IsName name → IsDigest digest → revision_path name digest ≡ revisions_front name ++ digits digest ∷ codes "link" ∷ [] }
+    ensures layer { (name digest : List ℕ) → IsName name → IsDigest digest → layer_path name digest ≡ layers_front name ++ digits digest ∷ codes "link" ∷ [] }
+{}
+
+/// The places below a folder of a repository are that repository's, also where its name begins another's.
+pub fn folders_are_apart()
+    ensures manifests { (name : List ℕ) (place : Place) (rest : List (List ℕ)) → IsName name → IsPlace place → place_path place ≡ repository_front name ++ codes "_manifests" ∷ rest → IsRevisionOf name place ⊎ IsTagOf name place }
+    ensures layers { (name : List ℕ) (place : Place) (rest : List (List ℕ)) → IsName name → IsPlace place → place_path place ≡ repository_front name ++ codes "_layers" ∷ rest → IsLayerOf name place }
+    ensures uploads { (name : List ℕ) (place : Place) (rest : List (List ℕ)) → IsName name → IsPlace place → place_path place ≡ repository_front name ++ codes "_uploads" ∷ rest → IsUploadOf name place }
+    ensures tags { (name : List ℕ) (place : Place) (rest : List (List ℕ)) → IsName name → IsPlace place → place_path place ≡ tags_front name ++ rest → IsTagOf name place }
+    ensures revisions { (name : List ℕ) (place : Place) (rest : List (List ℕ)) → IsName name → IsPlace place → place_path place ≡ revisions_front name ++ rest → IsRevisionOf name place }
+    ensures layer_digests { (name : List ℕ) (place : Place) (rest : List (List ℕ)) → IsName name → IsPlace place → place_path place ≡ layers_front name ++ rest → IsLayerOf name place }
+{}
+
+/// Below one folder, paths are in the order of the parts that follow: of their tags, or of their digests.
+pub fn places_are_in_order()
+    ensures parts { (front : List (List ℕ)) (t u : List ℕ) (x y : List (List ℕ)) → IsTrue (is_lt (slice_cmp nat_cmp t u)) → IsTrue (is_below (front ++ t ∷ x) (front ++ u ∷ y)) }
+    ensures tags { (name t u : List ℕ) → IsName name → IsTag t → IsTag u → is_below (tag_path name t) (tag_path name u) ≡ is_lt (slice_cmp nat_cmp t u) }
+    ensures revisions { (name d e : List ℕ) → IsName name → IsDigest d → IsDigest e → is_below (revision_path name d) (revision_path name e) ≡ is_lt (slice_cmp nat_cmp d e) }
+    ensures layers { (name d e : List ℕ) → IsName name → IsDigest d → IsDigest e → is_below (layer_path name d) (layer_path name e) ≡ is_lt (slice_cmp nat_cmp d e) }
 {}

@@ -1,5 +1,5 @@
-//! Places: where a registry's files lie below the root of its storage, and the path of each.
-//! Each place has one path and no two have the same.
+//! Places: where a registry's files lie below the root of its storage, the path of each, and the place of a path.
+//! Each place has one path, no two have the same, and a path that is no place's is told as such.
 //! Whoever reads or writes the files of a registry takes their paths from here, and knows that two places never
 //! meet. The layout is that of the Distribution registry's storage, `docker/registry/v2`; names, tags and digests
 //! are those of the OCI Distribution Specification 1.1.
@@ -7,8 +7,18 @@
 
 mod laws;
 mod paths;
+mod place;
+mod reading;
 #[cfg(test)]
 mod tests;
 
-pub use laws::{places_are_apart, places_are_paths};
-pub use paths::{data_path, revision_path, tag_path};
+pub use laws::{
+    folders_are_apart, places_are_apart, places_are_in_order, places_are_paths,
+    places_begin_with_folders, places_by_parts,
+};
+pub use paths::{
+    data_path, layer_path, layers_front, path_of, revision_path, revisions_front, tag_index_path,
+    tag_path, tags_front, upload_data_path, upload_started_path,
+};
+pub use place::Place;
+pub use reading::read_path;

@@ -2,12 +2,30 @@
 ghost use Rattle.std.specs.Prelude.{◌≡◌, IfOk, take};
 ghost use Rattle.std.specs.String.{string_bytes};
 ghost use Rattle.reg_names.specs.Digests.{IsDigest};
+ghost use Rattle.reg_names.specs.UploadIds.{IsUploadId, upload_id_text};
 ghost use Rattle.depot_api.specs.Paths.{IsPath, parts_of};
-ghost use Rattle.link_paths.specs.Places.{digits, data_path, revision_path, tag_path};
+ghost use Rattle.link_paths.specs.Places.{digits, data_path, layer_path, revision_path, tag_path, tag_index_path, upload_data_path, upload_started_path, place_path};
+ghost use Rattle.link_paths.specs.Folders.{tags_front, revisions_front, layers_front};
 
+use crate::Place;
 use depot_api::Path;
-use reg_names::{Digest, Name, NoMemory, Tag};
+use reg_names::{Digest, Name, NoMemory, Tag, Text, UploadId};
 use std::alloc::Global;
+
+/// Where a place lies.
+pub fn path_of(alloc: Global, place: &Place) -> Result<Path, NoMemory>
+    ensures { IfOk result (λ p. p ≡ place_path place.now) }
+{
+    match place {
+        Place::BlobData(digest) => data_path(alloc, digest),
+        Place::Revision(name, digest) => revision_path(alloc, name, digest),
+        Place::TagCurrent(name, tag) => tag_path(alloc, name, tag),
+        Place::TagIndex(name, tag, digest) => tag_index_path(alloc, name, tag, digest),
+        Place::Layer(name, digest) => layer_path(alloc, name, digest),
+        Place::UploadData(name, id) => upload_data_path(alloc, name, id),
+        Place::UploadStarted(name, id) => upload_started_path(alloc, name, id),
+    }
+}
 
 /// Where the bytes of a blob lie.
 #[tactic(auto, unfolding(crate::specs::Places::data_path))]
@@ -19,6 +37,19 @@ pub fn data_path(alloc: Global, digest: &Digest) -> Result<Path, NoMemory>
     path(
         alloc,
         &format!(in alloc; "docker/registry/v2/blobs/sha256/{first}/{digits}/data")?,
+    )
+}
+
+/// Where a repository keeps the link to a blob.
+#[tactic(auto, unfolding(crate::specs::Places::layer_path))]
+pub fn layer_path(alloc: Global, name: &Name, digest: &Digest) -> Result<Path, NoMemory>
+    ensures { IfOk result (λ p. p ≡ layer_path name.now digest.now) }
+{
+    let name = name.as_str();
+    let digits = digits_of(alloc, digest)?;
+    path(
+        alloc,
+        &format!(in alloc; "docker/registry/v2/repositories/{name}/_layers/sha256/{digits}/link")?,
     )
 }
 
@@ -52,6 +83,88 @@ pub fn tag_path(alloc: Global, name: &Name, tag: &Tag) -> Result<Path, NoMemory>
     )
 }
 
+/// Where a repository keeps the link of a tag to a manifest that it points to or has pointed to.
+#[tactic(auto, unfolding(crate::specs::Places::tag_index_path))]
+pub fn tag_index_path(
+    alloc: Global,
+    name: &Name,
+    tag: &Tag,
+    digest: &Digest,
+) -> Result<Path, NoMemory>
+    ensures { IfOk result (λ p. p ≡ tag_index_path name.now tag.now digest.now) }
+{
+    let name = name.as_str();
+    let tag = tag.as_str();
+    let digits = digits_of(alloc, digest)?;
+    path(
+        alloc,
+        &format!(in alloc;
+            "docker/registry/v2/repositories/{name}/_manifests/tags/{tag}/index/sha256/{digits}/link"
+        )?,
+    )
+}
+
+/// Where a repository keeps the bytes of an upload so far.
+#[tactic(auto, unfolding(crate::specs::Places::upload_data_path))]
+pub fn upload_data_path(alloc: Global, name: &Name, id: &UploadId) -> Result<Path, NoMemory>
+    ensures { IfOk result (λ p. p ≡ upload_data_path name.now id.now) }
+{
+    let name = name.as_str();
+    let id = id_text(alloc, id)?;
+    let id = id.as_str();
+    path(
+        alloc,
+        &format!(in alloc; "docker/registry/v2/repositories/{name}/_uploads/{id}/data")?,
+    )
+}
+
+/// Where a repository keeps the moment at which an upload was started.
+#[tactic(auto, unfolding(crate::specs::Places::upload_started_path))]
+pub fn upload_started_path(alloc: Global, name: &Name, id: &UploadId) -> Result<Path, NoMemory>
+    ensures { IfOk result (λ p. p ≡ upload_started_path name.now id.now) }
+{
+    let name = name.as_str();
+    let id = id_text(alloc, id)?;
+    let id = id.as_str();
+    path(
+        alloc,
+        &format!(in alloc; "docker/registry/v2/repositories/{name}/_uploads/{id}/startedat")?,
+    )
+}
+
+/// The folder in which a repository keeps the links of its tags.
+pub fn tags_front(alloc: Global, name: &Name) -> Result<Path, NoMemory>
+    ensures { IfOk result (λ p. p ≡ tags_front name.now) }
+{
+    let name = name.as_str();
+    path(
+        alloc,
+        &format!(in alloc; "docker/registry/v2/repositories/{name}/_manifests/tags")?,
+    )
+}
+
+/// The folder in which a repository keeps its links to manifests.
+pub fn revisions_front(alloc: Global, name: &Name) -> Result<Path, NoMemory>
+    ensures { IfOk result (λ p. p ≡ revisions_front name.now) }
+{
+    let name = name.as_str();
+    path(
+        alloc,
+        &format!(in alloc; "docker/registry/v2/repositories/{name}/_manifests/revisions/sha256")?,
+    )
+}
+
+/// The folder in which a repository keeps its links to blobs.
+pub fn layers_front(alloc: Global, name: &Name) -> Result<Path, NoMemory>
+    ensures { IfOk result (λ p. p ≡ layers_front name.now) }
+{
+    let name = name.as_str();
+    path(
+        alloc,
+        &format!(in alloc; "docker/registry/v2/repositories/{name}/_layers/sha256")?,
+    )
+}
+
 // The digest's 64 digits.
 fn digits_of(alloc: Global, digest: &Digest) -> Result<String, NoMemory>
     ensures digits { IfOk result (λ text. string_bytes text ≡ digits digest.now) }
@@ -65,6 +178,15 @@ fn first_digits_of(alloc: Global, digest: &Digest) -> Result<String, NoMemory>
     ensures { IfOk result (λ text. string_bytes text ≡ take 2 (digits digest.now)) }
 {
     Ok(hex::encode(alloc, &digest.raw()[..1])?)
+}
+
+// The text of an id.
+fn id_text(alloc: Global, id: &UploadId) -> Result<Text, NoMemory>
+    ensures text { IfOk result (λ text. text ≡ upload_id_text id.now) }
+    ensures id { IsUploadId id.now }
+{
+    let _raw = id.raw();
+    id.text(alloc)
 }
 
 // The path with this text.

@@ -1,5 +1,5 @@
 use Rattle.link_paths.specs.Places.{data_path}
-use Rattle.link_paths.proofs.PlacePaths.{IsPath-data_path}
+use Rattle.link_paths.proofs.PlaceParts.{IsPath-data_path}
 use Rattle.link_paths.proofs.paths.data_path.Goals as goal
 
 pub path-requires : goal.path-requires

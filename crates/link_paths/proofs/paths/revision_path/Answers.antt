@@ -1,5 +1,5 @@
 use Rattle.link_paths.specs.Places.{revision_path}
-use Rattle.link_paths.proofs.PlacePaths.{IsPath-revision_path}
+use Rattle.link_paths.proofs.PlaceParts.{IsPath-revision_path}
 use Rattle.link_paths.proofs.paths.revision_path.Goals as goal
 
 pub path-requires : goal.path-requires

@@ -1,5 +1,5 @@
 use Rattle.link_paths.specs.Places.{tag_path}
-use Rattle.link_paths.proofs.PlacePaths.{IsPath-tag_path}
+use Rattle.link_paths.proofs.PlaceParts.{IsPath-tag_path}
 use Rattle.link_paths.proofs.paths.tag_path.Goals as goal
 
 pub path-requires : goal.path-requires

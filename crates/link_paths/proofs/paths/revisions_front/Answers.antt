@@ -1,0 +1,13 @@
+use Rattle.std.proofs.Common.{◌≡◌, IfOk, subst}
+use Rattle.link_paths.proofs.PlaceParts.{IsFront-revisions_front}
+use Rattle.link_paths.proofs.paths.revisions_front.Goals as goal
+
+pub path-requires : goal.path-requires
+path-requires c =
+    rw (c.deref.ensures, c.in_ok-format.ensures.ok, c.as_str-name.ensures.bytes)
+    (IsFront-revisions_front c.args.name.now c.as_str-name.ensures.name).1
+
+pub returns : goal.returns
+returns c =
+    let cut = rw (c.deref.ensures, c.in_ok-format.ensures.ok, c.as_str-name.ensures.bytes) at c.path.ensures in
+    subst (λ parts. IfOk c.path.result (λ p. p ≡ parts)) (IsFront-revisions_front c.args.name.now c.as_str-name.ensures.name).0 cut

@@ -1,0 +1,108 @@
+-- Paths of places by their parts: the folders of a repository, and what lies in each.
+use Rattle.std.specs.Prelude.{◌≡◌, ℕ, ◌++◌, ◌==◌, Bool, false, List, [], ◌∷◌, Option, Some, None, codes, take, IsTrue}
+use Rattle.std.specs.List.{list_any}
+use Rattle.reg_names.specs.UploadIds.{upload_id_text}
+use Rattle.depot_api.specs.Paths.{parts_of}
+use Rattle.link_paths.specs.declared.place.Place.{Place}
+use Rattle.link_paths.specs.declared.place.Place.TheVariants.{BlobData, Revision, TagCurrent, TagIndex, Layer, UploadData, UploadStarted}
+use Rattle.link_paths.specs.Places.{digits, IsPlace}
+
+-- ---- fronts
+
+-- the folder of all blobs
+abbrev pub blobs_front : List (List ℕ)
+blobs_front = codes "docker" ∷ codes "registry" ∷ codes "v2" ∷ codes "blobs" ∷ []
+
+-- the folder of a repository
+abbrev pub repository_front : List ℕ → List (List ℕ)
+repository_front name = codes "docker" ∷ codes "registry" ∷ codes "v2" ∷ codes "repositories" ∷ parts_of name
+
+-- those of its tags, of its links to manifests and of its links to blobs
+abbrev pub tags_front : List ℕ → List (List ℕ)
+tags_front name = repository_front name ++ (codes "_manifests" ∷ codes "tags" ∷ [])
+
+abbrev pub revisions_front : List ℕ → List (List ℕ)
+revisions_front name = repository_front name ++ (codes "_manifests" ∷ codes "revisions" ∷ codes "sha256" ∷ [])
+
+abbrev pub layers_front : List ℕ → List (List ℕ)
+layers_front name = repository_front name ++ (codes "_layers" ∷ codes "sha256" ∷ [])
+
+-- ---- what lies below
+
+-- a link that is named by its digest
+abbrev pub digest_link : List ℕ → List (List ℕ)
+digest_link digest = codes "sha256" ∷ digits digest ∷ codes "link" ∷ []
+
+-- the file of a blob's bytes
+abbrev pub blob_file : List ℕ → List (List ℕ)
+blob_file digest = codes "sha256" ∷ take 2 (digits digest) ∷ digits digest ∷ codes "data" ∷ []
+
+-- the repository of a place; a blob has none
+abbrev pub repository_of : Place → Option (List ℕ)
+repository_of (BlobData digest) = None
+repository_of (Revision name digest) = Some name
+repository_of (TagCurrent name tag) = Some name
+repository_of (TagIndex name tag digest) = Some name
+repository_of (Layer name digest) = Some name
+repository_of (UploadData name id) = Some name
+repository_of (UploadStarted name id) = Some name
+
+-- a place's path below its repository, or below the folder of all blobs
+abbrev pub inside : Place → List (List ℕ)
+inside (BlobData digest) = blob_file digest
+inside (Revision name digest) = codes "_manifests" ∷ codes "revisions" ∷ digest_link digest
+inside (TagCurrent name tag) = codes "_manifests" ∷ codes "tags" ∷ tag ∷ codes "current" ∷ codes "link" ∷ []
+inside (TagIndex name tag digest) = codes "_manifests" ∷ codes "tags" ∷ tag ∷ codes "index" ∷ digest_link digest
+inside (Layer name digest) = codes "_layers" ∷ digest_link digest
+inside (UploadData name id) = codes "_uploads" ∷ upload_id_text id ∷ codes "data" ∷ []
+inside (UploadStarted name id) = codes "_uploads" ∷ upload_id_text id ∷ codes "startedat" ∷ []
+
+-- the folder that a place's path begins with
+abbrev pub front_of : Option (List ℕ) → List (List ℕ)
+front_of None = blobs_front
+front_of (Some name) = repository_front name
+
+-- the parts of a place's path
+abbrev pub place_parts : Place → List (List ℕ)
+place_parts place = front_of (repository_of place) ++ inside place
+
+-- a place of this repository
+abbrev pub IsPlaceOf : List ℕ → Place → Type 0
+IsPlaceOf name place = IsPlace place × (repository_of place ≡ Some name)
+
+-- a link to a manifest of this repository; a link of one of its tags; a link to one of its blobs; a file of one of its uploads
+abbrev pub IsRevisionOf : List ℕ → Place → Type 0
+IsRevisionOf name (Revision of digest) = of ≡ name
+IsRevisionOf name place = ⊥
+
+abbrev pub IsTagOf : List ℕ → Place → Type 0
+IsTagOf name (TagCurrent of tag) = of ≡ name
+IsTagOf name (TagIndex of tag digest) = of ≡ name
+IsTagOf name place = ⊥
+
+abbrev pub IsLayerOf : List ℕ → Place → Type 0
+IsLayerOf name (Layer of digest) = of ≡ name
+IsLayerOf name place = ⊥
+
+abbrev pub IsUploadOf : List ℕ → Place → Type 0
+IsUploadOf name (UploadData of id) = of ≡ name
+IsUploadOf name (UploadStarted of id) = of ≡ name
+IsUploadOf name place = ⊥
+
+-- a part that begins with an underscore, as no component of a name does
+abbrev pub is_hidden : List ℕ → Bool
+is_hidden [] = false
+is_hidden (b ∷ bs) = b == 95
+
+-- parts of which the first is such a one
+pub record IsBelow (parts : List (List ℕ)) : Type 0 where
+  pub first : List ℕ
+  pub more : List (List ℕ)
+  pub is : parts ≡ first ∷ more
+  pub hidden : IsTrue (is_hidden first)
+
+-- the parts before the first such part, and that part with what follows it
+pub record IsCutAtHidden (parts name rest : List (List ℕ)) : Type 0 where
+  pub is : parts ≡ name ++ rest
+  pub open_name : list_any is_hidden name ≡ false
+  pub below : IsBelow rest
