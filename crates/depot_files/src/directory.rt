@@ -1,42 +1,27 @@
 //! The directory.
-ghost use Rattle.std.specs.Prelude.{◌≡◌, ◌≤◌, IsErrOf};
+ghost use Rattle.std.specs.Prelude.{◌≡◌, ◌≤◌, ◌^◌, Ok, vec_len, IfOk, IfSome, IsErrOf, option_map, ⊤};
 ghost use Rattle.reg_names.specs.Cause.{HasCause};
 ghost use Rattle.reg_names.specs.declared.refused.Refused.TheVariants as refusals;
+ghost use Rattle.depot_api.specs.Files.{IsUpTo};
+ghost use Rattle.depot_api.specs.Pages.{Ascends};
 
+use crate::blob::FileBlob;
+use crate::root::{Opened, Root};
+use crate::unread::Unread;
+use crate::walk::Walk;
 use depot_api::{Depot, Path, Small};
 use reg_names::{Bytes, Refused};
 use std::alloc::Global;
-use std::fs::{self, OpenFile};
-use std::io::{self, ErrorKind, Read};
-use std::path::AsPath;
+use std::io::{self, Read};
 use std::rt::Files;
 
 /// The files below a root directory.
 #[derive(Drop)]
 pub struct FileDepot<R> {
-    rt: R,
-    /// The root with no symbolic link in it.
-    root: String,
+    root: Root<R>,
+    /// Behind the last page, whose walk a next page may go on with. What changes a file begins it anew.
+    walk: Option<Walk>,
     faults: u64,
-}
-
-/// Why a file was not read.
-#[derive(Drop)]
-enum Unread {
-    /// No file is at the path.
-    Absent,
-    NoMemory,
-    Fault,
-}
-
-impl From<io::Error> for Unread {
-    fn from(error: io::Error) -> Unread {
-        match error.kind() {
-            ErrorKind::NotFound | ErrorKind::NotADirectory => Unread::Absent,
-            ErrorKind::OutOfMemory => Unread::NoMemory,
-            _ => Unread::Fault,
-        }
-    }
 }
 
 impl<R: Files + AllocGlobal> FileDepot<R> {
@@ -44,18 +29,26 @@ impl<R: Files + AllocGlobal> FileDepot<R> {
     pub fn open(rt: R, root: &str) -> io::Result<FileDepot<R>>
     where
         R: Drop,
+        ensures { IfOk result (λ depot. depot.faults ≡ 0) }
     {
-        let root = fs::canonicalize(&rt, root)?;
-        let root = String::from_str(rt.alloc(), root.path_text())?;
         Ok(FileDepot {
-            rt,
-            root,
+            root: Root::open(rt, root)?,
+            walk: None,
             faults: 0,
         })
     }
+
+    /// How often it has failed.
+    pub fn faults(&self) -> u64
+        ensures { result ≡ self.now.faults }
+    {
+        self.faults
+    }
 }
 
-impl<R: Files + AllocGlobal> Depot for FileDepot<R> {
+impl<R: Files + AllocGlobal + Clone + Drop> Depot for FileDepot<R> {
+    type B = FileBlob<R::File>;
+
     ghost use Rattle.std.specs.Prelude.{false};
     ghost use Rattle.depot_files.specs.Silence.{untold};
 
@@ -65,70 +58,116 @@ impl<R: Files + AllocGlobal> Depot for FileDepot<R> {
 
     ghost faults = { λ d. d.faults };
 
+    fn size(&mut self, alloc: Global, at: &Path) -> Result<Option<u64>, Refused> {
+        let found = self.size_at(alloc, at);
+        self.counted(found)
+    }
+
     fn read_small(&mut self, alloc: Global, at: &Path, most: u64) -> Result<Small, Refused> {
-        match small_file(&self.rt, alloc, self.root.as_str(), at, most) {
-            Ok(small) => Ok(small),
-            Err(Unread::Absent) => Ok(Small::Absent),
+        let found = self.small_at(alloc, at, most);
+        self.counted(found)
+    }
+
+    fn fetch(&mut self, alloc: Global, at: &Path) -> Result<Option<FileBlob<R::File>>, Refused> {
+        let found = self.blob_at(alloc, at);
+        self.counted(found)
+    }
+
+    fn page(
+        &mut self,
+        alloc: Global,
+        under: &Path,
+        after: Option<&Path>,
+        most: usize,
+    ) -> Result<Vec<Path>, Refused> {
+        let found = self.page_after(alloc, under, after, most);
+        self.counted(found)
+    }
+
+    fn done(&mut self, blob: FileBlob<R::File>) {
+        if blob.faults() > 0 {
+            self.count_fault();
+        }
+    }
+}
+
+impl<R: Files + AllocGlobal + Clone + Drop> FileDepot<R> {
+    // What was read, or the refusal. A fault is counted.
+    fn counted<T: Drop>(&mut self, read: Result<T, Unread>) -> Result<T, Refused>
+        ensures value { IfOk result (λ value. read ≡ Ok value) }
+        ensures cause { HasCause self.old.faults self.new.faults (IsErrOf result refusals.Failed) }
+    {
+        match read {
+            Ok(value) => Ok(value),
             Err(Unread::NoMemory) => Err(Refused::NoMemory),
             Err(Unread::Fault) => {
-                self.faults = self.faults.saturating_add(1);
+                self.count_fault();
                 Err(Refused::Failed)
             }
         }
     }
-}
 
-// The file at a path below the root.
-fn small_file<R: Files + AllocGlobal>(
-    rt: &R,
-    alloc: Global,
-    root: &str,
-    at: &Path,
-    most: u64,
-) -> Result<Small, Unread> {
-    let Ok(path) = at.text(alloc) else {
-        return Err(Unread::NoMemory);
-    };
-    let path = path.as_str();
-    let asked = format!(in alloc; "{root}/{path}").map_err(|_| Unread::NoMemory)?;
-    let found = fs::canonicalize(rt, asked.as_str())?;
-    let found = found.path_text();
-    if !is_below(root, found) {
-        return Err(Unread::Fault);
+    fn count_fault(&mut self)
+        ensures { HasCause self.old.faults self.new.faults ⊤ }
+    {
+        self.faults = self.faults.saturating_add(1);
     }
-    if fs::metadata(rt, found)?.is_dir() {
-        return Err(Unread::Absent);
-    }
-    let mut file = fs::open(rt, found)?;
-    if file.metadata()?.len() > most {
-        return Ok(Small::TooLong);
-    }
-    read_up_to(alloc, &mut file, most)
-}
 
-// Whether a path without symbolic links lies below a root.
-fn is_below(root: &str, path: &str) -> bool {
-    match path.strip_prefix(root) {
-        Some(rest) => rest.starts_with('/') || root.ends_with('/'),
-        None => false,
+    fn size_at(&self, alloc: Global, at: &Path) -> Result<Option<u64>, Unread>
+        ensures { IfOk result (λ found. IfSome found (λ size. size ≤ 2 ^ 62)) }
+    {
+        self.root.file_len(alloc, at.text(alloc)?.as_str())
+    }
+
+    fn small_at(&self, alloc: Global, at: &Path, most: u64) -> Result<Small, Unread>
+        ensures { IfOk result (IsUpTo most) }
+    {
+        match self.root.open_file(alloc, at.text(alloc)?.as_str())? {
+            Some(Opened { length, .. }) if length > most => Ok(Small::TooLong),
+            Some(Opened { file, .. }) => read_up_to(alloc, file, most),
+            None => Ok(Small::Absent),
+        }
+    }
+
+    fn blob_at(&self, alloc: Global, at: &Path) -> Result<Option<FileBlob<R::File>>, Unread>
+        ensures { IfOk result (λ found. IfSome found (λ blob. blob.faults ≡ 0)) }
+    {
+        match self.root.open_file(alloc, at.text(alloc)?.as_str())? {
+            Some(Opened { file, length }) => Ok(Some(FileBlob::new(file, length))),
+            None => Ok(None),
+        }
+    }
+
+    // The next page of the walk that gave the last one, where it is asked for, and else of a new walk.
+    fn page_after(
+        &mut self,
+        alloc: Global,
+        under: &Path,
+        after: Option<&Path>,
+        most: usize,
+    ) -> Result<Vec<Path>, Unread>
+        ensures most { IfOk result (λ page. vec_len page ≤ most) }
+        ensures order { IfOk result (λ page. Ascends under.now (option_map (λ a. a.now) after.entry) page.items) }
+        ensures faults { self.new.faults ≡ self.old.faults }
+    {
+        let mut walk = match self.walk.take() {
+            Some(walk) if walk.stands_at(under, after) => walk,
+            _ => Walk::begin(alloc, &self.root, under, after)?,
+        };
+        let page = walk.page(alloc, &self.root, most)?;
+        self.walk = Some(walk);
+        Ok(page)
     }
 }
 
 // All that a file holds, as far as `most` bytes.
-fn read_up_to<F: Read>(alloc: Global, file: &mut F, most: u64) -> Result<Small, Unread> {
+fn read_up_to<F: Read + Drop>(alloc: Global, file: F, most: u64) -> Result<Small, Unread>
+    ensures { IfOk result (IsUpTo most) }
+{
     let mut bytes = Vec::new(alloc);
-    let mut room = [0; 16384];
-    for _ in 0..u64::MAX {
-        let n = file.read(&mut room)?;
-        if n == 0 {
-            break;
-        }
-        if bytes.len() as u64 + n as u64 > most {
-            return Ok(Small::TooLong);
-        }
-        bytes
-            .extend_from_slice(&room[..n])
-            .map_err(|_| Unread::NoMemory)?;
+    let _ = file.take(most.saturating_add(1)).read_to_end(&mut bytes)?;
+    if bytes.len() as u64 > most {
+        return Ok(Small::TooLong);
     }
     Ok(Small::Content(Bytes::from_vec(bytes)))
 }

@@ -5,6 +5,13 @@
 //! is followed out of it.
 #![tactic(auto)]
 
+mod blob;
 mod directory;
+mod root;
+#[cfg(test)]
+mod tests;
+mod unread;
+mod walk;
 
+pub use blob::FileBlob;
 pub use directory::FileDepot;

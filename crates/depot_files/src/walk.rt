@@ -1,0 +1,181 @@
+//! A walk through the files below a root.
+ghost use Rattle.std.specs.Prelude.{◌≡◌, ◌≤◌, vec_len, IsTrue, IfOk, IfSome, option_map};
+ghost use Rattle.depot_api.specs.Pages.{IsAsked, Ascends};
+
+use crate::root::{Entry, Root};
+use crate::unread::Unread;
+use depot_api::{Part, Path};
+use reg_names::NoMemory;
+use std::alloc::Global;
+use std::rt::Files;
+
+/// The most files and folders that one page looks at. No disk holds as many, but no clause can say so.
+const MOST_TURNS: u64 = 1 << 62;
+
+/// The files that begin with a path and come after another, in the order of their paths. A folder is listed once,
+/// when the walk comes to it, and its names are held until it has gone through them.
+///
+/// What is neither a file nor a folder is passed over, and so are names that are no part of a path.
+#[derive(Drop)]
+pub struct Walk {
+    under: Path,
+    /// The file that was given last, or the path behind which the walk began.
+    after: Option<Path>,
+    /// The files and folders that come next, the first of them at the end.
+    ahead: Vec<String>,
+}
+
+impl Walk {
+    /// The walk through the files that begin with `under` and come after `after`.
+    pub fn begin<R: Files + AllocGlobal>(
+        alloc: Global,
+        root: &Root<R>,
+        under: &Path,
+        after: Option<&Path>,
+    ) -> Result<Walk, Unread>
+        ensures under { IfOk result (λ walk. walk.under ≡ under.now) }
+        ensures after { IfOk result (λ walk. walk.after ≡ option_map (λ a. a.now) after.entry) }
+    {
+        let mut ahead = Vec::new(alloc);
+        let text = text_of(alloc, under)?;
+        if comes_after(under, after) && root.has(alloc, text.as_str())? {
+            ahead.push(text)?;
+        }
+        Ok(Walk {
+            under: under.copy(alloc)?,
+            after: copy_of(alloc, after)?,
+            ahead,
+        })
+    }
+
+    /// Whether the next files are those that begin with `under` and come after `after`.
+    pub fn stands_at(&self, under: &Path, after: Option<&Path>) -> bool
+        ensures { IsTrue result → (self.now.under ≡ under.now) × (self.now.after ≡ option_map (λ a. a.now) after.entry) }
+    {
+        self.under == *under && is_at(&self.after, after)
+    }
+
+    /// The next files, at most so many. A file that is not one of those asked for is passed over.
+    pub fn page<R: Files + AllocGlobal + Clone + Drop>(
+        &mut self,
+        alloc: Global,
+        root: &Root<R>,
+        most: usize,
+    ) -> Result<Vec<Path>, Unread>
+        ensures most { IfOk result (λ page. vec_len page ≤ most) }
+        ensures order { IfOk result (λ page. Ascends self.old.under self.old.after page.items) }
+    {
+        let mut page = Vec::new(alloc);
+        for _ in 0..MOST_TURNS {
+            if page.len() == most {
+                break;
+            }
+            let Some(next) = self.ahead.pop() else {
+                break;
+            };
+            if let Some(file) = self.visit(alloc, root, next.as_str())? {
+                self.after = Some(file.copy(alloc)?);
+                page.push(file)?;
+            }
+        }
+        Ok(page)
+    }
+
+    // The file at a path, where it is one of those asked for. Of a folder the names come next.
+    fn visit<R: Files + AllocGlobal + Clone + Drop>(
+        &mut self,
+        alloc: Global,
+        root: &Root<R>,
+        text: &str,
+    ) -> Result<Option<Path>, Unread>
+        ensures asked { IfOk result (λ found. IfSome found (IsAsked self.old.under self.old.after)) }
+        ensures under { self.new.under ≡ self.old.under }
+        ensures after { self.new.after ≡ self.old.after }
+    {
+        let Some(path) = Path::read(alloc, text)? else {
+            return Ok(None);
+        };
+        match root.entry(alloc, text)? {
+            Some(Entry::File) if self.asks_for(&path) => return Ok(Some(path)),
+            Some(Entry::Folder) => self.enter(alloc, root, &path, text)?,
+            _ => {}
+        }
+        Ok(None)
+    }
+
+    fn asks_for(&self, path: &Path) -> bool
+        ensures { IsTrue result → IsAsked self.now.under self.now.after path.now }
+    {
+        path.begins_with(&self.under) && self.after.as_ref().is_none_or(|after| after < path)
+    }
+
+    // Puts what lies in a folder before all else, from the name on to which `after` leads.
+    fn enter<R: Files + AllocGlobal + Clone + Drop>(
+        &mut self,
+        alloc: Global,
+        root: &Root<R>,
+        folder: &Path,
+        text: &str,
+    ) -> Result<(), Unread>
+        ensures under { self.new.under ≡ self.old.under }
+        ensures after { self.new.after ≡ self.old.after }
+    {
+        let names = root.names(alloc, text)?;
+        let first = first_name(self.after.as_ref(), folder);
+        put_ahead(alloc, &mut self.ahead, text, names, first)
+    }
+}
+
+// The name at which a walk goes on in a folder whose front it has gone through.
+fn first_name<'a>(after: Option<&'a Path>, folder: &Path) -> Option<&'a Part> {
+    after?.parts().strip_prefix(folder.parts())?.first()
+}
+
+// Puts the names of a folder before all else, from the first on.
+fn put_ahead(
+    alloc: Global,
+    ahead: &mut Vec<String>,
+    folder: &str,
+    mut names: Vec<String>,
+    first: Option<&Part>,
+) -> Result<(), Unread> {
+    names.sort_unstable_by(|a, b| b.cmp(a));
+    for name in names {
+        let name = name.as_str();
+        if first.is_none_or(|first| first.as_str() <= name) {
+            ahead.push(format!(in alloc; "{folder}/{name}")?)?;
+        }
+    }
+    Ok(())
+}
+
+// Whether files that begin with `under` may come after `after`.
+fn comes_after(under: &Path, after: Option<&Path>) -> bool {
+    match after {
+        Some(after) => after < under || after.begins_with(under),
+        None => true,
+    }
+}
+
+fn text_of(alloc: Global, path: &Path) -> Result<String, NoMemory> {
+    Ok(String::from_str(alloc, path.text(alloc)?.as_str())?)
+}
+
+fn copy_of(alloc: Global, path: Option<&Path>) -> Result<Option<Path>, NoMemory>
+    ensures { IfOk result (λ copy. copy ≡ option_map (λ p. p.now) path.entry) }
+{
+    match path {
+        Some(path) => Ok(Some(path.copy(alloc)?)),
+        None => Ok(None),
+    }
+}
+
+fn is_at(own: &Option<Path>, path: Option<&Path>) -> bool
+    ensures { IsTrue result → own.now ≡ option_map (λ p. p.now) path.entry }
+{
+    match (own, path) {
+        (Some(own), Some(path)) => own == path,
+        (None, None) => true,
+        _ => false,
+    }
+}
