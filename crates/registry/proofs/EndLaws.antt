@@ -6,9 +6,8 @@ use Rattle.registry.specs.declared.reply.Reply.{Reply}
 use Rattle.registry.specs.declared.reply.Reply.TheVariants as replies
 use Rattle.registry.specs.declared.reply.Refusal.TheVariants.{NoMemory}
 use Rattle.registry.specs.Replies.{wire}
-use Rattle.registry.specs.Runs.{Ends, replied, cut, unread, status_of}
+use Rattle.registry.specs.Runs.{Ends, Delivers, replied, cut, unread, status_of}
 use Rattle.registry.specs.Sending.{Sends}
-use Rattle.registry.specs.Steps.{Delivers}
 
 -- a reply that was sent, or cut, ends a run
 pub Ends-sent : {T E : Type 0} (IsIts : Reply → Type 0) (source_rose sink_rose : Type 0) (old new : Option (List ℕ)) (status : ℕ) (reply : Reply) (sent : Result T E)

@@ -3,7 +3,6 @@ pub mod Replies
 pub mod Runs
 pub mod Words
 pub mod Sending
-pub mod Steps
 pub mod Fronts
 pub mod Parsing
 pub mod InMemory

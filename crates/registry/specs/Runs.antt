@@ -48,6 +48,10 @@ pub data Ends (IsIts : Reply → Type 0) (source_rose sink_rose : Type 0) (old n
   cut : (reply : Reply) → IsIts reply → TookFront old new (wire reply) → sink_rose → status ≡ 5 → Ends IsIts source_rose sink_rose old new status
   unread : source_rose → Keeps old new → status ≡ 5 → Ends IsIts source_rose sink_rose old new status
 
+-- this reply was delivered, or the one for want of memory in its place
+abbrev pub Delivers : Reply → Type 0 → Option (List ℕ) → Option (List ℕ) → ℕ → Type 0
+Delivers reply sink_rose old new status = Ends (λ r. (r ≡ reply) ⊎ (r ≡ replies.Refused NoMemory)) ⊥ sink_rose old new status
+
 -- all of a line was written, or a front of it, where the sink's count rose
 abbrev pub Writes : Type 0 → Option (List ℕ) → Option (List ℕ) → List ℕ → Type 0
 Writes sink_rose old new line = Appends old new line ⊎ (TookFront old new line × sink_rose)

@@ -1,5 +1,5 @@
 -- The words of the program.
-use Rattle.std.specs.Prelude.{ℕ, Bool, false, not, ◌&&◌, ◌==◌, nat_eq, List, [], ◌∷◌, ◌++◌, codes, IsTrue}
+use Rattle.std.specs.Prelude.{ℕ, Bool, false, not, ◌&&◌, ◌==◌, nat_eq, if◌then◌else◌, List, [], ◌∷◌, ◌++◌, codes, Option, Some, None, IsTrue}
 use Rattle.std.specs.Cmp.Lexicographic.{pointwise}
 
 -- whether a text is this one
@@ -19,6 +19,11 @@ are_words _ = false
 
 abbrev pub AreWords : List (List ℕ) → Type 0
 AreWords words = IsTrue (are_words words)
+
+-- the directory that accepted words name
+abbrev pub root_in : List (List ℕ) → Option (List ℕ)
+root_in (command ∷ option ∷ value ∷ []) = if are_words (command ∷ option ∷ value ∷ []) then Some value else None
+root_in _ = None
 
 -- what is written where the words are refused
 abbrev pub usage : List ℕ

@@ -1,5 +1,5 @@
 //! Streams, the clock and the words of ids of the system.
-ghost use Rattle.std.specs.Prelude.{◌≤◌, ◌^◌};
+ghost use Rattle.std.specs.Prelude.{◌≡◌, ◌≤◌, ◌^◌};
 
 use depot_api::{Clock, Ids, Sink, SinkFault, Source, SourceFault};
 use std::io::{Read, Write};
@@ -19,7 +19,12 @@ pub struct ReaderSource<R> {
 }
 
 impl<R: Read> ReaderSource<R> {
-    pub fn new(reader: R) -> ReaderSource<R> {
+    /// Nothing was given yet.
+    pub fn new(reader: R) -> ReaderSource<R>
+        ensures reader { result.reader ≡ reader }
+        ensures given { result.given ≡ 0 }
+        ensures faults { result.faults ≡ 0 }
+    {
         ReaderSource {
             reader,
             given: 0,
@@ -57,7 +62,11 @@ pub struct WriterSink<W> {
 }
 
 impl<W: Write> WriterSink<W> {
-    pub fn new(writer: W) -> WriterSink<W> {
+    /// Nothing was taken yet.
+    pub fn new(writer: W) -> WriterSink<W>
+        ensures writer { result.writer ≡ writer }
+        ensures faults { result.faults ≡ 0 }
+    {
         WriterSink { writer, faults: 0 }
     }
 }

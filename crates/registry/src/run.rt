@@ -3,8 +3,7 @@ ghost use Rattle.std.specs.Prelude.{◌≡◌, ◌≢◌, ◌≤◌, ◌↔◌, 
 ghost use Rattle.std.specs.String.{string_bytes};
 ghost use Rattle.reg_names.specs.Cause.{Rose, HasCause};
 ghost use Rattle.registry.specs.Words.{AreWords, usage};
-ghost use Rattle.registry.specs.Runs.{IsReply, Ends, Writes};
-ghost use Rattle.registry.specs.Steps.{Delivers};
+ghost use Rattle.registry.specs.Runs.{IsReply, Ends, Delivers, Writes};
 ghost use Rattle.registry.specs.declared.reply.Reply.TheVariants as replies;
 
 use crate::reply::{Refusal, Reply, manifest_head};

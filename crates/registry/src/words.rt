@@ -1,7 +1,8 @@
 //! The words of the command line.
-ghost use Rattle.std.specs.Prelude.{◌≡◌, map};
+ghost use Rattle.std.specs.Prelude.{◌≡◌, Some, None, map};
+ghost use Rattle.std.specs.Option.{MatchOption};
 ghost use Rattle.std.specs.String.{string_bytes};
-ghost use Rattle.registry.specs.Words.{are_words, is_value};
+ghost use Rattle.registry.specs.Words.{are_words, is_value, root_in};
 
 /// What is written where the words are refused.
 pub const USAGE: &str = "usage: registry once|import|review|audit|gen|serve\n";
@@ -20,8 +21,10 @@ pub fn are_accepted(words: &[String]) -> bool
     }
 }
 
-/// The directory that `--root` names.
-pub fn root(words: &[String]) -> Option<&str> {
+/// The directory that `--root` names, where the words are accepted.
+pub fn root(words: &[String]) -> Option<&str>
+    ensures { MatchOption result (root_in (map string_bytes words.now) ≡ None) (λ root. root_in (map string_bytes words.now) ≡ Some root.now) }
+{
     match words {
         [_, _, value] if are_accepted(words) => Some(value.as_str()),
         _ => None,
