@@ -2,12 +2,14 @@ pub mod Paths
 pub mod Files
 pub mod Pages
 pub mod Blobs
+pub mod Stages
 pub mod Streams
 pub mod Ids
 pub mod Calls
 pub mod Memory
 pub mod MemDepot
 pub mod MemBlob
+pub mod MemStage
 pub mod MemSource
 pub mod MemSink
 pub mod ListedIds

@@ -11,6 +11,7 @@ mod depot;
 mod ids;
 pub mod memory;
 mod path;
+mod stage;
 mod stream;
 
 pub use blob::{Blob, BlobFault};
@@ -19,6 +20,7 @@ pub use depot::{Depot, Small, pages_agree};
 pub use ids::Ids;
 pub use path::{Part, Path};
 pub use reg_names::{Bytes, NoMemory, Refused, Text};
+pub use stage::Stage;
 pub use stream::{Sink, SinkFault, Source, SourceFault};
 
 #[cfg(test)]

@@ -8,6 +8,7 @@ mod depot;
 mod ids;
 mod sink;
 mod source;
+mod stage;
 
 pub use blob::MemBlob;
 pub use clock::FixedClock;
@@ -15,3 +16,4 @@ pub use depot::MemDepot;
 pub use ids::ListedIds;
 pub use sink::MemSink;
 pub use source::MemSource;
+pub use stage::MemStage;
