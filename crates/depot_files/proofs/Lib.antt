@@ -1,1 +1,1 @@
-mod SamePath
+mod LastLaws

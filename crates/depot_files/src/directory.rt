@@ -154,7 +154,7 @@ impl<R: Files + AllocGlobal + Clone + Drop> FileDepot<R> {
             Some(walk) if walk.stands_at(under, after) => walk,
             _ => Walk::begin(alloc, &self.root, under, after)?,
         };
-        let page = walk.page(alloc, &self.root, most)?;
+        let page = walk.page(alloc, &self.root, under, after, most)?;
         self.walk = Some(walk);
         Ok(page)
     }

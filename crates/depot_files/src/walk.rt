@@ -1,5 +1,5 @@
 //! A walk through the files below a root.
-ghost use Rattle.std.specs.Prelude.{◌≡◌, ◌≤◌, vec_len, IsTrue, IfOk, IfSome, option_map};
+ghost use Rattle.std.specs.Prelude.{◌≤◌, vec_len, IsTrue, IfOk, option_map};
 ghost use Rattle.depot_api.specs.Pages.{IsAsked, Ascends};
 
 use crate::root::{Entry, Root};
@@ -9,7 +9,8 @@ use reg_names::NoMemory;
 use std::alloc::Global;
 use std::rt::Files;
 
-/// The most files and folders that one page looks at. No disk holds as many, but no clause can say so.
+/// The most files and folders that one page looks at. No disk holds as many, but no clause can say so; such a page
+/// would find no memory.
 const MOST_TURNS: u64 = 1 << 62;
 
 /// The files that begin with a path and come after another, in the order of their paths. A folder is listed once,
@@ -32,10 +33,7 @@ impl Walk {
         root: &Root<R>,
         under: &Path,
         after: Option<&Path>,
-    ) -> Result<Walk, Unread>
-        ensures under { IfOk result (λ walk. walk.under ≡ under.now) }
-        ensures after { IfOk result (λ walk. walk.after ≡ option_map (λ a. a.now) after.entry) }
-    {
+    ) -> Result<Walk, Unread> {
         let mut ahead = Vec::new(alloc);
         let text = text_of(alloc, under)?;
         if comes_after(under, after) && root.has(alloc, text.as_str())? {
@@ -43,70 +41,69 @@ impl Walk {
         }
         Ok(Walk {
             under: under.copy(alloc)?,
-            after: copy_of(alloc, after)?,
+            after: after.map(|after| after.copy(alloc)).transpose()?,
             ahead,
         })
     }
 
     /// Whether the next files are those that begin with `under` and come after `after`.
-    pub fn stands_at(&self, under: &Path, after: Option<&Path>) -> bool
-        ensures { IsTrue result → (self.now.under ≡ under.now) × (self.now.after ≡ option_map (λ a. a.now) after.entry) }
-    {
-        self.under == *under && is_at(&self.after, after)
+    pub fn stands_at(&self, under: &Path, after: Option<&Path>) -> bool {
+        self.under == *under && self.after.as_ref() == after
     }
 
-    /// The next files, at most so many. A file that is not one of those asked for is passed over.
+    /// The next files, at most so many, of a walk that stands at `under` and `after`. What the system gives out of
+    /// their order is passed over.
     pub fn page<R: Files + AllocGlobal + Clone + Drop>(
         &mut self,
         alloc: Global,
         root: &Root<R>,
+        under: &Path,
+        after: Option<&Path>,
         most: usize,
     ) -> Result<Vec<Path>, Unread>
         ensures most { IfOk result (λ page. vec_len page ≤ most) }
-        ensures order { IfOk result (λ page. Ascends self.old.under self.old.after page.items) }
+        ensures order { IfOk result (λ page. Ascends under.now (option_map (λ a. a.now) after.entry) page.items) }
     {
         let mut page = Vec::new(alloc);
         for _ in 0..MOST_TURNS {
             if page.len() == most {
-                break;
+                return Ok(page);
             }
             let Some(next) = self.ahead.pop() else {
-                break;
+                return Ok(page);
             };
-            if let Some(file) = self.visit(alloc, root, next.as_str())? {
-                self.after = Some(file.copy(alloc)?);
+            let Some(file) = self.visit(alloc, root, next.as_str())? else {
+                continue;
+            };
+            if is_asked(under, page.last().or(after), &file) {
+                self.has_given(alloc, &file)?;
                 page.push(file)?;
             }
         }
-        Ok(page)
+        Err(Unread::NoMemory)
     }
 
-    // The file at a path, where it is one of those asked for. Of a folder the names come next.
+    // The path of a file, where one lies there. Of a folder the names come next.
     fn visit<R: Files + AllocGlobal + Clone + Drop>(
         &mut self,
         alloc: Global,
         root: &Root<R>,
         text: &str,
-    ) -> Result<Option<Path>, Unread>
-        ensures asked { IfOk result (λ found. IfSome found (IsAsked self.old.under self.old.after)) }
-        ensures under { self.new.under ≡ self.old.under }
-        ensures after { self.new.after ≡ self.old.after }
-    {
+    ) -> Result<Option<Path>, Unread> {
         let Some(path) = Path::read(alloc, text)? else {
             return Ok(None);
         };
         match root.entry(alloc, text)? {
-            Some(Entry::File) if self.asks_for(&path) => return Ok(Some(path)),
+            Some(Entry::File) => return Ok(Some(path)),
             Some(Entry::Folder) => self.enter(alloc, root, &path, text)?,
             _ => {}
         }
         Ok(None)
     }
 
-    fn asks_for(&self, path: &Path) -> bool
-        ensures { IsTrue result → IsAsked self.now.under self.now.after path.now }
-    {
-        path.begins_with(&self.under) && self.after.as_ref().is_none_or(|after| after < path)
+    fn has_given(&mut self, alloc: Global, file: &Path) -> Result<(), NoMemory> {
+        self.after = Some(file.copy(alloc)?);
+        Ok(())
     }
 
     // Puts what lies in a folder before all else, from the name on to which `after` leads.
@@ -116,10 +113,7 @@ impl Walk {
         root: &Root<R>,
         folder: &Path,
         text: &str,
-    ) -> Result<(), Unread>
-        ensures under { self.new.under ≡ self.old.under }
-        ensures after { self.new.after ≡ self.old.after }
-    {
+    ) -> Result<(), Unread> {
         let names = root.names(alloc, text)?;
         let first = first_name(self.after.as_ref(), folder);
         put_ahead(alloc, &mut self.ahead, text, names, first)
@@ -149,6 +143,13 @@ fn put_ahead(
     Ok(())
 }
 
+// Whether a file is one of those that begin with `under` and come after `after`.
+fn is_asked(under: &Path, after: Option<&Path>, file: &Path) -> bool
+    ensures { IsTrue result → IsAsked under.now (option_map (λ a. a.now) after.entry) file.now }
+{
+    file.begins_with(under) && after.is_none_or(|after| after < file)
+}
+
 // Whether files that begin with `under` may come after `after`.
 fn comes_after(under: &Path, after: Option<&Path>) -> bool {
     match after {
@@ -159,23 +160,4 @@ fn comes_after(under: &Path, after: Option<&Path>) -> bool {
 
 fn text_of(alloc: Global, path: &Path) -> Result<String, NoMemory> {
     Ok(String::from_str(alloc, path.text(alloc)?.as_str())?)
-}
-
-fn copy_of(alloc: Global, path: Option<&Path>) -> Result<Option<Path>, NoMemory>
-    ensures { IfOk result (λ copy. copy ≡ option_map (λ p. p.now) path.entry) }
-{
-    match path {
-        Some(path) => Ok(Some(path.copy(alloc)?)),
-        None => Ok(None),
-    }
-}
-
-fn is_at(own: &Option<Path>, path: Option<&Path>) -> bool
-    ensures { IsTrue result → own.now ≡ option_map (λ p. p.now) path.entry }
-{
-    match (own, path) {
-        (Some(own), Some(path)) => own == path,
-        (None, None) => true,
-        _ => false,
-    }
 }

@@ -1,11 +1,10 @@
-use Rattle.std.proofs.Common.{◌≡◌, ◌≤◌, ℕ, List, ◌++◌, length}
+use Rattle.std.proofs.Common.{◌≤◌, length, option_map}
 use Rattle.depot_api.specs.Pages.{Ascends}
 use Rattle.depot_files.proofs.walk.Walk.page.Given as goal
 
--- what ascends behind the last file of the page ascends behind the page
+-- the page so far ascends
 abbrev pub invariant-loop : goal.invariant-loop
 invariant-loop g l = record {
   most : length l.page.items ≤ l.most;
-  under : l.self.under ≡ l.fn.self.under;
-  order : (rest : List (List (List ℕ))) → Ascends l.self.under l.self.after rest → Ascends l.fn.self.under l.fn.self.after (l.page.items ++ rest);
+  order : Ascends l.under (option_map (λ a. a.now) l.after) l.page.items;
 }
