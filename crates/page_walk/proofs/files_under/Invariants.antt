@@ -1,10 +1,13 @@
 use Rattle.std.proofs.Common.{◌≡◌, ◌≤◌}
+use Rattle.std.specs.Prelude.{IsTrue}
+use Rattle.page_walk.proofs.WalkLaws.{IsWalked}
 use Rattle.page_walk.proofs.files_under.Given as goal
 
--- the pages so far changed nothing
+-- the pages so far changed nothing, and are counted
 abbrev pub invariant-loop : goal.invariant-loop
 invariant-loop g l = record {
-  files : g.D.Depot.files l.depot ≡ g.D.Depot.files l.initial.depot;
-  tells : g.D.Depot.tells l.depot ≡ g.D.Depot.tells l.initial.depot;
-  later : g.D.Depot.faults l.initial.depot ≤ g.D.Depot.faults l.depot;
+  files : g.D.Depot.files l.depot ≡ g.D.Depot.files l.fn.depot;
+  tells : g.D.Depot.tells l.depot ≡ g.D.Depot.tells l.fn.depot;
+  later : g.D.Depot.faults l.fn.depot ≤ g.D.Depot.faults l.depot;
+  walked : IsTrue (g.D.Depot.tells l.fn.depot) → IsWalked (g.D.Depot.files l.fn.depot) l.fn.under l.last l.files;
 }
