@@ -7,9 +7,19 @@ use Rattle.std.specs.Ordering.{nat_cmp}
 use Rattle.std.specs.Cmp.Lexicographic.{pointwise, slice_cmp, same_text}
 use Rattle.std.specs.BTreeMap.{is_at}
 use Rattle.manifest_doc.specs.Documents.{is_of}
-use Rattle.manifest_doc.specs.Noting.{Freedoms, with_note, with_layers, with_config, freedom}
+use Rattle.manifest_doc.specs.Noting.{Freedoms, with_note, freedom}
 use Rattle.manifest_doc.proofs.ListLaws.{same_key}
 use Rattle.manifest_doc.specs.declared.descriptors.Descriptor.{Descriptor}
+
+-- what was gathered, with the layers' occurrences
+abbrev pub with_layers : Freedoms → List Descriptor → Freedoms
+with_layers f [] = f
+with_layers f (e ∷ es) = with_layers (with_note f e.digest e.has_urls) es
+
+-- what was gathered, with that of the configuration
+abbrev pub with_config : Freedoms → Option Descriptor → Freedoms
+with_config f None = f
+with_config f (Some e) = with_note f e.digest false
 
 -- a layer that is of the digest has URLs
 abbrev has : List ℕ → Descriptor → Bool

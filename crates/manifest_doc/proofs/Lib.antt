@@ -3,3 +3,4 @@ pub mod Elements
 pub mod ListLaws
 pub mod FreedomLaws
 pub mod DocumentLaws
+pub mod OneDocumentLaws

@@ -3,3 +3,4 @@ pub mod Kinds
 pub mod Descriptors
 pub mod Documents
 pub mod Noting
+pub mod OneDocument

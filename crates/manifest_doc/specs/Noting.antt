@@ -1,5 +1,5 @@
 -- How it is gathered whether a named digest is free.
-use Rattle.std.specs.Prelude.{ℕ, Bool, true, false, ◌&&◌, nat_eq, if◌then◌else◌, List, [], ◌∷◌, Option, Some, None}
+use Rattle.std.specs.Prelude.{ℕ, Bool, true, ◌&&◌, nat_eq, if◌then◌else◌, List, Option, Some, None}
 use Rattle.std.specs.Option.{unwrap_or}
 use Rattle.std.specs.Cmp.Lexicographic.{pointwise}
 use Rattle.manifest_doc.specs.Documents.{is_named, is_free}
@@ -12,16 +12,6 @@ Freedoms = List ℕ → Option Bool
 -- the same, with one occurrence more
 abbrev pub with_note : Freedoms → List ℕ → Bool → Freedoms
 with_note f digest has_urls = λ q. if pointwise nat_eq q digest then Some (unwrap_or (f q) true && has_urls) else f q
-
--- the same, with the layers' occurrences
-abbrev pub with_layers : Freedoms → List Descriptor → Freedoms
-with_layers f [] = f
-with_layers f (e ∷ es) = with_layers (with_note f e.digest e.has_urls) es
-
--- the same, with that of the configuration
-abbrev pub with_config : Freedoms → Option Descriptor → Freedoms
-with_config f None = f
-with_config f (Some e) = with_note f e.digest false
 
 -- whether a digest is named, and then whether it is free
 abbrev pub freedom : List ℕ → Option Descriptor → List Descriptor → Option Bool

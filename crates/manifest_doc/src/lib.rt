@@ -17,6 +17,7 @@ mod tests;
 pub use document::{Doc, read_doc};
 pub use fault::DocFault;
 pub use laws::{
-    bytes_are_one_document, children_are_listed, documents_pass_the_tests, what_is_named_is_held,
+    bytes_are_one_document, children_are_listed, documents_are_computed, documents_pass_the_tests,
+    what_is_named_is_held,
 };
 pub use reg_names::{DigestList, Kind, NamedList};

@@ -3,7 +3,7 @@ use Rattle.std.specs.Ordering.{nat_cmp}
 use Rattle.std.specs.Cmp.Lexicographic.{slice_cmp}
 use Rattle.std.specs.BTreeMap as tree
 use Rattle.std.specs.Vec.Iter.{into_iter_items}
-use Rattle.manifest_doc.specs.Noting.{with_layers, with_config}
+use Rattle.manifest_doc.proofs.FreedomLaws.{with_layers, with_config}
 use Rattle.manifest_doc.proofs.lists.freedoms_of.Given as goal
 
 -- what was gathered so far, with the layers that are left, is what all tell
