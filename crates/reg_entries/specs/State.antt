@@ -1,0 +1,29 @@
+-- The state of a registry: what its repositories have. The moments of links, and the digests whose removal has been
+-- decided, come with the journal.
+use Rattle.std.specs.Prelude.{ℕ, Bool, false, ◌⊎◌, List, Option, None, IsSome, IsTrue}
+use Rattle.std.specs.Option.{option_map_or}
+use Rattle.reg_names.specs.Named.{has_digest}
+use Rattle.reg_entries.specs.declared.document.Document.{Document}
+
+-- by a repository's name and a digest its manifests and the sizes of the blobs that it links, and by its name and a
+-- tag the digest that the tag points to
+pub record State : Type 0 where
+  pub manifests : List ℕ → List ℕ → Option Document
+  pub links : List ℕ → List ℕ → Option ℕ
+  pub tags : List ℕ → List ℕ → Option (List ℕ)
+
+-- the state in which no repository has anything
+abbrev pub empty : State
+empty = record { manifests = λ name digest. None; links = λ name digest. None; tags = λ name tag. None }
+
+-- a repository is known where it has a manifest or a link
+abbrev pub IsKnown : State → List ℕ → Type 0
+IsKnown state name = ((digest : List ℕ) × IsSome (state.manifests name digest)) ⊎ ((digest : List ℕ) × IsSome (state.links name digest))
+
+-- whether a manifest, where there is one, lists the child
+abbrev pub lists_child : List ℕ → Option Document → Bool
+lists_child child manifest = option_map_or (λ m. has_digest child m.children) manifest false
+
+-- the repository has a manifest under the digest `parent`, which lists the child
+abbrev pub Lists : State → List ℕ → List ℕ → List ℕ → Type 0
+Lists state name parent child = IsTrue (lists_child child (state.manifests name parent))
