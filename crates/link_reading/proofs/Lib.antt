@@ -1,1 +1,6 @@
 pub mod Shortness
+pub mod MeaningLaws
+pub mod BelowLaws
+pub mod PageLaws
+pub mod WalkLaws
+pub mod ListingLaws

@@ -1,26 +1,19 @@
 -- A file that is longer than what it should hold does not hold it, so a short read is enough.
-use Rattle.std.proofs.Common.{◌≡◌, ◌≢◌, ℕ, ◌+◌, ◌*◌, ◌<◌, ◌≤◌, Bool, true, false, cond, List, [], ◌∷◌, ◌++◌, length, Option, Some, None, Ok, Decides, nat_eq, codes, refl, sym, ap, ◌∙◌, subst, arith, length-append, leb}
-use Rattle.std.specs.Prelude.{nat_le, option_and_then, ◌&&◌}
-use Rattle.std.specs.Result.{result_ok}
-use Rattle.std.specs.Cmp.Lexicographic.{pointwise, unequal}
+use Rattle.std.proofs.Common.{◌≡◌, ℕ, ◌+◌, ◌*◌, ◌≤◌, Bool, true, false, cond, List, length, Option, Some, None, Err, codes, refl, ap, ◌∙◌, arith, length-append}
+use Rattle.std.specs.Prelude.{nat_le, option_and_then, option_map, ◌&&◌}
 use Rattle.std.proofs.lemmas.Bool.Decides.{nat_tests}
 use Rattle.hex.specs.Hex.{encode_lower}
 use Rattle.hex.proofs.HexLemmas.{length-encode_with}
 use Rattle.reg_names.specs.Digests.{digest_text, digest_named, IsDigest}
 use Rattle.reg_names.proofs.DigestTexts.{digest_named-is}
 use Rattle.manifest_doc.specs.declared.document.Doc.{Doc}
+use Rattle.manifest_doc.specs.declared.fault.DocFault.{DocFault}
 use Rattle.manifest_doc.specs.Documents.{IsDocument, verdict}
-use Rattle.manifest_doc.proofs.DocumentLaws.{passes}
+use Rattle.manifest_doc.specs.OneDocument.{document_in}
+use Rattle.manifest_doc.proofs.OneDocumentLaws.{computes, not_computed}
 use Rattle.reg_digest.specs.Hashing.{hashes_to}
-use Rattle.link_reading.specs.Meaning.{holds, kind_by}
+use Rattle.link_reading.specs.Meaning.{manifest_in, kept}
 use Rattle.link_reading.specs.Answers.{short}
-
-pub holds-short : (file : Option (List ℕ)) (text : List ℕ) → holds (short (length text) file) text ≡ holds file text
-holds-short None text = refl
-holds-short (Some bytes) text = at_test _ refl where
-  at_test : (b : Bool) → nat_le (length bytes) (length text) ≡ b → holds (cond b (Some bytes) None) text ≡ pointwise nat_eq bytes text
-  at_test true e = refl
-  at_test false e = sym (unequal nat_eq bytes text (grind (arith, nat_tests)))
 
 -- the text of a digest has 71 bytes
 length-digest_text : (digest : List ℕ) → IsDigest digest → length (digest_text digest) ≡ 71
@@ -42,16 +35,23 @@ named-short (Some bytes) = at_test _ refl where
   at_test true e = refl
   at_test false e = named_is_short bytes _ refl e
 
-pub kind-short : (file : Option (List ℕ)) (digest : List ℕ) → option_and_then (kind_by digest) (short 4194304 file) ≡ option_and_then (kind_by digest) file
-kind-short None digest = refl
-kind-short (Some bytes) digest = at_test _ refl where
-  at_test : (b : Bool) → nat_le (length bytes) 4194304 ≡ b → option_and_then (kind_by digest) (cond b (Some bytes) None) ≡ kind_by digest bytes
+pub manifest-short : (file : Option (List ℕ)) (digest : List ℕ) → option_and_then (manifest_in digest) (short 4194304 file) ≡ option_and_then (manifest_in digest) file
+manifest-short None digest = refl
+manifest-short (Some bytes) digest = at_test _ refl where
+  at_test : (b : Bool) → nat_le (length bytes) 4194304 ≡ b → option_and_then (manifest_in digest) (cond b (Some bytes) None) ≡ manifest_in digest bytes
   at_test true e = refl
   at_test false e = rw e refl
 
--- the kind of a document that hashes to the digest and is no longer than it may be
-pub kind_by_document : (digest bytes : List ℕ) (doc : Doc) → length bytes ≤ 4194304 → hashes_to digest bytes ≡ true → IsDocument bytes doc → kind_by digest bytes ≡ Some doc.kind
-kind_by_document digest bytes doc short hashes document = at_test _ refl hashes (passes bytes doc document) where
-  at_test : (b : Bool) → nat_le (length bytes) 4194304 ≡ b → hashes_to digest bytes ≡ true → verdict bytes ≡ Ok doc.kind → cond (b && hashes_to digest bytes) (result_ok (verdict bytes)) None ≡ Some doc.kind
+-- the manifest that a document is, where its bytes hash to the digest and are no longer than they may be
+pub manifest_by_document : (digest bytes : List ℕ) (doc : Doc) → length bytes ≤ 4194304 → hashes_to digest bytes ≡ true → IsDocument bytes doc → manifest_in digest bytes ≡ Some (kept (length bytes) doc)
+manifest_by_document digest bytes doc short hashes document = at_test _ refl hashes (computes bytes doc document) where
+  at_test : (b : Bool) → nat_le (length bytes) 4194304 ≡ b → hashes_to digest bytes ≡ true → document_in bytes ≡ Some doc → cond (b && hashes_to digest bytes) (option_map (kept (length bytes)) (document_in bytes)) None ≡ Some (kept (length bytes) doc)
   at_test true e h v = rw (h, v) refl
   at_test false e h v = absurd (grind (arith, nat_tests))
+
+-- bytes that fail a test are no manifest
+pub no_manifest : (digest bytes : List ℕ) (fault : DocFault) → verdict bytes ≡ Err fault → manifest_in digest bytes ≡ None
+no_manifest digest bytes fault fails = at_test _ where
+  at_test : (b : Bool) → cond b (option_map (kept (length bytes)) (document_in bytes)) None ≡ None
+  at_test true = rw (not_computed bytes fault fails) refl
+  at_test false = refl

@@ -2,7 +2,7 @@
 use Rattle.std.specs.Prelude.{◌≡◌, ℕ, nat_le, if◌then◌else◌, List, length, Option, Some, None, option_and_then}
 use Rattle.link_reading.specs.declared.manifests.StoredManifest.{StoredManifest}
 use Rattle.depot_api.specs.Files.{Files}
-use Rattle.link_reading.specs.Meaning.{kind_by, manifest_at, tag_at, data_at}
+use Rattle.link_reading.specs.Meaning.{Means, kept, manifest_in, data_at}
 
 -- a file that is there and has at most so many bytes
 abbrev pub short : ℕ → Option (List ℕ) → Option (List ℕ)
@@ -10,15 +10,15 @@ short most file = option_and_then (λ bytes. if nat_le (length bytes) most then 
 
 -- the manifest in a digest's data file, or that it holds none
 abbrev pub IsStored : List ℕ → Option (List ℕ) → Option StoredManifest → Type 0
-IsStored digest file (Some m) = (m.digest ≡ digest) × (file ≡ Some m.bytes) × (kind_by digest m.bytes ≡ Some m.kind)
-IsStored digest file None = option_and_then (kind_by digest) file ≡ None
+IsStored digest file (Some m) = (m.digest ≡ digest) × (file ≡ Some m.bytes) × (manifest_in digest m.bytes ≡ Some (kept (length m.bytes) m.doc))
+IsStored digest file None = option_and_then (manifest_in digest) file ≡ None
 
--- the manifest that a repository has under a digest, or that it has none
+-- the manifest that a repository has under a digest, with its bytes, or that it has none
 abbrev pub IsManifest : Files → List ℕ → List ℕ → Option StoredManifest → Type 0
-IsManifest files name digest (Some m) = (m.digest ≡ digest) × (manifest_at files name digest ≡ Some m.kind) × (data_at files digest ≡ Some m.bytes)
-IsManifest files name digest None = manifest_at files name digest ≡ None
+IsManifest files name digest (Some m) = (m.digest ≡ digest) × ((Means files).manifests name digest ≡ Some (kept (length m.bytes) m.doc)) × (data_at files digest ≡ Some m.bytes)
+IsManifest files name digest None = (Means files).manifests name digest ≡ None
 
 -- the manifest that a tag of a repository points to, or that the tag means nothing
 abbrev pub IsManifestByTag : Files → List ℕ → List ℕ → Option StoredManifest → Type 0
-IsManifestByTag files name tag (Some m) = (tag_at files name tag ≡ Some m.digest) × (manifest_at files name m.digest ≡ Some m.kind) × (data_at files m.digest ≡ Some m.bytes)
-IsManifestByTag files name tag None = tag_at files name tag ≡ None
+IsManifestByTag files name tag (Some m) = ((Means files).tags name tag ≡ Some m.digest) × ((Means files).manifests name m.digest ≡ Some (kept (length m.bytes) m.doc)) × (data_at files m.digest ≡ Some m.bytes)
+IsManifestByTag files name tag None = (Means files).tags name tag ≡ None

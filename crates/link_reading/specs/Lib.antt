@@ -1,2 +1,4 @@
 pub mod Meaning
 pub mod Answers
+pub mod Below
+pub mod Walks

@@ -1,33 +1,76 @@
--- What link files mean: which manifests and tags a repository has, told by membership in the files.
-use Rattle.std.specs.Prelude.{◌≡◌, ℕ, Bool, false, ◌&&◌, nat_eq, nat_le, if◌then◌else◌, List, length, Option, Some, None, is_some, option_and_then}
-use Rattle.std.specs.Result.{result_ok}
+-- What files mean: the manifests, links and tags that the repositories of a registry have by its link files.
+use Rattle.std.specs.Prelude.{◌≡◌, ℕ, Bool, false, ◌&&◌, nat_eq, nat_le, if◌then◌else◌, List, length, Option, Some, None, is_some, option_map, option_and_then}
+use Rattle.std.specs.Option.{option_map_or}
 use Rattle.std.specs.Cmp.Lexicographic.{pointwise}
-use Rattle.reg_names.specs.declared.kind.Kind.{Kind}
-use Rattle.reg_names.specs.Digests.{digest_text, digest_named}
+use Rattle.reg_names.specs.Names.{is_name}
+use Rattle.reg_names.specs.Tags.{is_tag}
+use Rattle.reg_names.specs.Digests.{digest_named}
 use Rattle.reg_digest.specs.Hashing.{hashes_to}
-use Rattle.manifest_doc.specs.Documents.{verdict}
+use Rattle.manifest_doc.specs.declared.document.Doc.{Doc}
+use Rattle.manifest_doc.specs.OneDocument.{document_in}
 use Rattle.depot_api.specs.Files.{Files}
-use Rattle.link_paths.specs.Places.{data_path, revision_path, tag_path}
+use Rattle.link_paths.specs.declared.place.Place.{Place}
+use Rattle.link_paths.specs.declared.place.Place.TheVariants.{Layer, Revision, TagCurrent, TagIndex}
+use Rattle.link_paths.specs.Places.{IsPlace, place_path, data_path, layer_path, revision_path, tag_path}
+use Rattle.reg_entries.specs.declared.document.Document.{Document}
+use Rattle.reg_entries.specs.State.{State}
 
--- whether a file holds exactly this text
-abbrev pub holds : Option (List ℕ) → List ℕ → Bool
-holds None text = false
-holds (Some bytes) text = pointwise nat_eq bytes text
-
--- the kind of document that bytes are, where they are no more than 4,194,304 and hash to the digest
-abbrev pub kind_by : List ℕ → List ℕ → Option Kind
-kind_by digest bytes = if nat_le (length bytes) 4194304 && hashes_to digest bytes then result_ok (verdict bytes) else None
-
--- the kind of the manifest that a repository has under a digest: its revision link holds the digest's text, and
--- the digest's data file is a manifest
-abbrev pub manifest_at : Files → List ℕ → List ℕ → Option Kind
-manifest_at files name digest = if holds (files (revision_path name digest)) (digest_text digest) then option_and_then (kind_by digest) (files (data_path digest)) else None
-
--- the digest that a tag of a repository points to: its link holds the text of a digest, and the repository has a
--- manifest under that digest
-abbrev pub tag_at : Files → List ℕ → List ℕ → Option (List ℕ)
-tag_at files name tag = option_and_then (λ digest. if is_some (manifest_at files name digest) then Some digest else None) (option_and_then digest_named (files (tag_path name tag)))
+-- ---- what the tests read
 
 -- the bytes of a digest's data file
 abbrev pub data_at : Files → List ℕ → Option (List ℕ)
 data_at files digest = files (data_path digest)
+
+-- whether a link file holds exactly the text of this digest
+abbrev pub links_to : Option (List ℕ) → List ℕ → Bool
+links_to file digest = option_map_or (pointwise nat_eq digest) (option_and_then digest_named file) false
+
+-- what is kept of a document with so many bytes
+abbrev pub kept : ℕ → Doc → Document
+kept size doc = record { kind = doc.kind; size = size; named = doc.named; children = doc.children }
+
+-- the manifest that bytes are under a digest: they are no more than 4,194,304, hash to it, and are a document
+abbrev pub manifest_in : List ℕ → List ℕ → Option Document
+manifest_in digest bytes = if nat_le (length bytes) 4194304 && hashes_to digest bytes then option_map (kept (length bytes)) (document_in bytes) else None
+
+-- ---- the three tests
+
+-- the size of a blob that a repository has: its link holds the digest's text, and the digest's data file is there
+abbrev pub link_at : Files → List ℕ → List ℕ → Option ℕ
+link_at files name digest = if is_name name && links_to (files (layer_path name digest)) digest then option_map length (data_at files digest) else None
+
+-- the manifest that a repository has under a digest: its link holds the digest's text, and the data file is a manifest
+abbrev pub manifest_at : Files → List ℕ → List ℕ → Option Document
+manifest_at files name digest = if is_name name && links_to (files (revision_path name digest)) digest then option_and_then (manifest_in digest) (data_at files digest) else None
+
+-- the digest that a tag points to: its link holds the text of a digest, under which the repository has a manifest
+abbrev pub tag_at : Files → List ℕ → List ℕ → Option (List ℕ)
+tag_at files name tag = if is_name name && is_tag tag then option_and_then (λ digest. if is_some (manifest_at files name digest) then Some digest else None) (option_and_then digest_named (files (tag_path name tag))) else None
+
+-- what the files mean
+abbrev pub Means : Files → State
+Means files = record { manifests = manifest_at files; links = link_at files; tags = tag_at files }
+
+-- ---- link files
+
+-- the places of link files
+abbrev pub IsLink : Place → Type 0
+IsLink (Layer name digest) = Unit {0}
+IsLink (Revision name digest) = Unit {0}
+IsLink (TagCurrent name tag) = Unit {0}
+IsLink (TagIndex name tag digest) = Unit {0}
+IsLink place = ⊥
+
+-- a link to a blob or to a manifest, or of a tag, through which nothing is meant
+abbrev pub MeansNothing : State → Place → Type 0
+MeansNothing state (Layer name digest) = state.links name digest ≡ None
+MeansNothing state (Revision name digest) = state.manifests name digest ≡ None
+MeansNothing state (TagCurrent name tag) = state.tags name tag ≡ None
+MeansNothing state place = ⊥
+
+-- a path is broken where it is that of such a link
+pub record IsBroken (files : Files) (path : List (List ℕ)) : Type 0 where
+  pub place : Place
+  pub is : IsPlace place
+  pub at : path ≡ place_path place
+  pub silent : MeansNothing (Means files) place

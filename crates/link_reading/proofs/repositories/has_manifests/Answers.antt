@@ -1,0 +1,24 @@
+use Rattle.std.proofs.Common.{None, Some, ◌∙◌, arith}
+use Rattle.link_reading.specs.Walks.{IsManifestAt}
+use Rattle.link_reading.proofs.WalkLaws.{gives_of, told_of, no_manifests, manifest_turn}
+use Rattle.link_reading.proofs.repositories.has_manifests.Goals as goal
+
+pub returns-in_default-clause-value : goal.returns-in_default-clause-value
+returns-in_default-clause-value g c = λ told.
+    let l = c.loop.invariant in
+    let gives = gives_of _ _ _ _ _ _ _ _ _ _ _ None l.files l.tells l.under c.as_ref.ensures.value c.in_default.is c.in_ok-path.ensures.value told (l.stands told).next in
+    no_manifests _ c.args.name.now _ _ c.as_str.ensures.name (l.stands told) gives
+
+pub loop-preserved : goal.loop-preserved
+loop-preserved g c =
+    let l = c.loop.invariant in
+    record {
+      files = c.is_manifest.ensures.files ∙ c.next.ensures.files ∙ l.files;
+      tells = c.is_manifest.ensures.tells ∙ c.next.ensures.tells ∙ l.tells;
+      later = omega (arith, l.later, c.next.ensures.cause.later, c.is_manifest.ensures.cause.later);
+      under = c.next.ensures.under ∙ l.under;
+      stands = λ told.
+          let gives = gives_of _ _ _ _ _ _ _ _ _ _ _ (Some c.in-Some.path) l.files l.tells l.under c.as_ref.ensures.value c.in-Some.is c.in_ok-path.ensures.value told (l.stands told).next in
+          let here = told_of (λ state b. IsManifestAt state c.args.name.now c.in-Some.path b) _ _ _ _ _ _ (c.next.ensures.files ∙ l.files) (c.next.ensures.tells ∙ l.tells) c.if-branch.false c.in_ok-is_manifest.ensures.value told in
+          manifest_turn _ c.args.name.now _ _ _ _ (l.stands told) gives here;
+    }

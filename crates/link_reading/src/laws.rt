@@ -1,0 +1,41 @@
+//! Laws of what files mean.
+ghost use Rattle.std.specs.Prelude.{◌≡◌, ◌≢◌, ◌↔◌, ℕ, List, length, Option, Some, None, IsSome, IsTrue, option_map};
+ghost use Rattle.reg_names.specs.Names.{IsName};
+ghost use Rattle.reg_names.specs.Digests.{IsDigest, digest_text};
+ghost use Rattle.depot_api.specs.Files.{Files, with_at};
+ghost use Rattle.link_paths.specs.Places.{IsPlace, place_path, layer_path, data_path};
+ghost use Rattle.link_paths.specs.declared.place.Place.{Place};
+ghost use Rattle.reg_entries.specs.declared.document.Document.{Document};
+ghost use Rattle.reg_entries.specs.State.{empty};
+ghost use Rattle.link_reading.specs.Meaning.{Means, links_to, data_at, IsLink};
+
+/// A link file is read as the link to a digest exactly where it holds the digest's text and nothing more.
+pub fn links_hold_texts()
+    ensures { (file : Option (List ℕ)) (digest : List ℕ) → IsTrue (links_to file digest) ↔ (IsDigest digest × (file ≡ Some (digest_text digest))) }
+{}
+
+/// A tag points to a manifest of its repository.
+pub fn tags_point_to_manifests()
+    ensures { (files : Files) (name tag digest : List ℕ) → (Means files).tags name tag ≡ Some digest → IsSome ((Means files).manifests name digest) }
+{}
+
+/// The size of a manifest is that of its data file.
+pub fn manifests_have_the_size_of_their_data()
+    ensures { (files : Files) (name digest : List ℕ) (m : Document) → (Means files).manifests name digest ≡ Some m → option_map length (data_at files digest) ≡ Some m.size }
+{}
+
+/// Files among which no link file is mean nothing.
+pub fn files_without_links_mean_nothing()
+    ensures { (files : Files) → ((place : Place) → IsPlace place → IsLink place → files (place_path place) ≡ None) → Means files ≡ empty }
+{}
+
+/// A file at a path that is no place's changes nothing of what files mean.
+pub fn other_files_change_nothing()
+    ensures { (files : Files) (path : List (List ℕ)) (file : Option (List ℕ)) → ((place : Place) → IsPlace place → place_path place ≢ path) → Means (with_at files path file) ≡ Means files }
+{}
+
+/// A link to a blob means nothing until the blob's data file comes.
+pub fn links_sleep_without_their_data()
+    ensures { (files : Files) (name digest bytes : List ℕ) → IsName name → IsDigest digest → files (layer_path name digest) ≡ Some (digest_text digest) → files (data_path digest) ≡ None
+        → ((Means files).links name digest ≡ None) × ((Means (with_at files (data_path digest) (Some bytes))).links name digest ≡ Some (length bytes)) }
+{}
