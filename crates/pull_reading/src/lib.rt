@@ -1,0 +1,18 @@
+//! The requests that `once` answers: a pull of a manifest, of a blob or of a list of tags, in one spelling.
+//! `read` tells exactly what the front of an input asks for, that the input ends inside a request, or that it is
+//! none, and reads no further than a request may reach; a law makes that reading the only one.
+//! Whoever answers one request from an input reads it here (RFC 9112; OCI Distribution Specification 1.1).
+#![tactic(auto)]
+
+mod ask;
+mod laws;
+mod reading;
+mod request;
+mod target;
+#[cfg(test)]
+mod tests;
+mod unfinished;
+
+pub use ask::Ask;
+pub use laws::an_input_has_one_reading;
+pub use reading::{Asked, Unread, read};
