@@ -1,0 +1,15 @@
+pub mod LineLaws
+pub mod HeadLaws
+pub mod VerdictLaws
+pub mod StreamLaws
+pub mod FieldLaws
+pub mod NumberLaws
+pub mod ElementLaws
+pub mod PieceLaws
+pub mod BodyLaws
+pub mod TakingLaws
+pub mod MovingLaws
+pub mod GrammarFacts
+pub mod MessageLaws
+pub mod FillingLaws
+pub mod StagingLaws

@@ -1,0 +1,128 @@
+-- From what waits in a feed to the pieces of a body on the stream.
+use Rattle.std.proofs.Common.{◌≡◌, ℕ, ◌+◌, ◌-◌, ◌<◌, ◌≤◌, min, List, [], ◌++◌, length, take, drop, slice_range, refl, sym, ap, subst, ◌∙◌, arith, append_assoc, append-nil, length-append, length-take-le, Option, Some, None}
+use Rattle.std.proofs.Math.Nat.{sub-zero}
+use Rattle.std.specs.Io.KnownBytes.{prepend_known, Keeps, IsAtEnd}
+use Rattle.http_wire.specs.declared.body.BodyState.{BodyState}
+use Rattle.http_wire.specs.declared.body.BodyState.TheVariants as states
+use Rattle.http_wire.specs.declared.body.Piece.{Piece}
+use Rattle.http_wire.specs.declared.body.Piece.TheVariants as pieces
+use Rattle.http_wire.specs.declared.body.BodyStep.{BodyStep}
+use Rattle.http_wire.specs.declared.body.BodyStep.TheVariants as steps
+use Rattle.http_wire.specs.declared.pieces.PieceJudged.{PieceJudged}
+use Rattle.http_wire.specs.declared.pieces.PieceJudged.TheVariants as judged
+use Rattle.http_wire.specs.declared.pieces.Taken.TheVariants as taken
+use Rattle.http_wire.specs.Bodies.{Passes, IsBad, IsCut, is_cut_short, Stops, Runs, stops, due, less, Advances}
+use Rattle.http_wire.specs.BodyAnswers.{limit_of, given, count_of, IsEndOf, GivesSome, JudgesPiece, JudgesFront, FitsFront, IsAfter, Takes}
+use Rattle.http_wire.specs.Flow.{OnStream}
+use Rattle.http_wire.proofs.BodyLaws.{Passes-append, IsBad-append, advances_none, advances_in}
+use Rattle.http_wire.proofs.StreamLaws.{slice_split, length_slice, drop_front}
+
+cut_is_short : (piece : Piece) (bytes : List ℕ) → IsCut piece bytes → length bytes < limit_of piece
+cut_is_short pieces.Gap bytes cut = cut.0
+cut_is_short pieces.Line bytes cut = cut.0
+cut_is_short pieces.Trailer bytes cut = cut.0
+
+pub limit_is_small : (piece : Piece) → limit_of piece ≤ 16384
+limit_is_small pieces.Gap = omega arith
+limit_is_small pieces.Line = omega arith
+limit_is_small pieces.Trailer = omega arith
+
+-- the front of what waits, as much as the piece may have
+pub front_judged : (answer : PieceJudged) (piece : Piece) (b p : List ℕ) (start end middle : ℕ) → start ≤ end → end ≤ length b → middle ≡ min end (start + limit_of piece)
+    → slice_range b start end ≡ p → JudgesPiece answer piece (slice_range b start middle) → JudgesFront answer piece p
+front_judged answer piece b p start end middle ordered within is_middle is x =
+    (slice_range b start middle, slice_range b middle end, sym is ∙ slice_split b start middle end (omega arith) (omega arith), x, λ is_open. nothing_behind (subst (λ (a : PieceJudged). JudgesPiece a piece (slice_range b start middle)) is_open x))
+  where
+    nothing_behind : IsCut piece (slice_range b start middle) → slice_range b middle end ≡ []
+    nothing_behind cut =
+        let short = cut_is_short piece _ cut in
+        let long = length_slice b start middle (omega arith) (omega arith) in
+        let e : end - middle ≡ 0 = omega arith in
+        ap (λ (k : ℕ). take k (drop middle b)) e
+
+pub front_fits : (answer : PieceJudged) (piece : Piece) (p : List ℕ) → JudgesFront answer piece p → FitsFront answer p
+front_fits (judged.Whole next count) piece p (begin, behind, split, (passes, some, fits), rest) = (some, omega (arith, ap length split, length-append begin behind))
+front_fits judged.Bad piece p x = tt
+front_fits judged.Open piece p (begin, behind, split, cut, nothing) =
+    omega (arith, ap length split, length-append begin behind, ap length (nothing refl), cut_is_short piece begin cut, limit_is_small piece)
+
+-- ---- on the stream
+
+pub piece_found : (old left : Option (List ℕ)) (p : List ℕ) (piece : Piece) (next : BodyState) (count : ℕ) → Keeps old (prepend_known p left)
+    → JudgesFront (judged.Whole next count) piece p → OnStream old (prepend_known (drop count p) left) (Takes (taken.Next next) piece)
+piece_found None left p piece next count kept x = tt
+piece_found (Some a) None p piece next count kept x = kept
+piece_found (Some a) (Some q) p piece next count kept (begin, behind, split, (passes, some, fits), nothing) =
+    let whole = Passes-append piece begin next (drop count begin) (behind ++ q) passes in
+    let before : begin ++ (behind ++ q) ≡ a = sym (append_assoc begin behind q) ∙ ap (λ (b : List ℕ). b ++ q) (sym split) ∙ kept in
+    let after : drop count begin ++ (behind ++ q) ≡ drop count p ++ q =
+    sym (append_assoc (drop count begin) behind q) ∙ ap (λ (b : List ℕ). b ++ q) (sym (drop_front count begin behind fits) ∙ ap (drop count) (sym split)) in
+    subst (λ (b : List ℕ). Passes piece b next (drop count p ++ q)) before (subst (λ (r : List ℕ). Passes piece (begin ++ (behind ++ q)) next r) after whole)
+
+pub piece_bad : (old left : Option (List ℕ)) (p : List ℕ) (piece : Piece) → Keeps old (prepend_known p left) → JudgesFront judged.Bad piece p
+    → OnStream old (prepend_known p left) (Takes taken.Bad piece)
+piece_bad None left p piece kept x = tt
+piece_bad (Some a) None p piece kept x = kept
+piece_bad (Some a) (Some q) p piece kept (begin, behind, split, bad, nothing) =
+    let before : begin ++ (behind ++ q) ≡ a = sym (append_assoc begin behind q) ∙ ap (λ (b : List ℕ). b ++ q) (sym split) ∙ kept in
+    (subst (IsBad piece) before (IsBad-append piece begin (behind ++ q) bad), kept)
+
+pub piece_cut : (old left : Option (List ℕ)) (p : List ℕ) (piece : Piece) → Keeps old (prepend_known p left) → IsAtEnd left → JudgesFront judged.Open piece p
+    → OnStream old (prepend_known p left) (Takes taken.Cut piece)
+piece_cut None left p piece kept over x = tt
+piece_cut (Some a) None p piece kept over x = kept
+piece_cut (Some a) (Some q) p piece kept over (begin, behind, split, cut, nothing) =
+    let before : begin ≡ a = sym (append-nil begin) ∙ ap (λ (b : List ℕ). begin ++ b) (sym (nothing refl)) ∙ sym split ∙ sym (append-nil p) ∙ ap (λ (b : List ℕ). p ++ b) (sym over) ∙ kept in
+    (subst (IsCut piece) before cut, kept)
+
+pub passes_after : (piece : Piece) (bytes : List ℕ) (next : BodyState) (rest : List ℕ) → Passes piece bytes next rest → IsAfter piece next
+passes_after pieces.Gap bytes next rest x = x.1
+passes_after pieces.Line bytes next rest (line, has, is) = (_, is)
+passes_after pieces.Trailer bytes next rest (section, has, is) = is
+
+pub front_after : (piece : Piece) (p : List ℕ) (next : BodyState) (count : ℕ) → JudgesFront (judged.Whole next count) piece p → IsAfter piece next
+front_after piece p next count (begin, behind, split, (passes, some, fits), nothing) = passes_after piece begin next (drop count begin) passes
+
+-- ---- steps through data
+
+pub less_none : (state : BodyState) → less state 0 ≡ state
+less_none (states.Fixed n) = ap states.Fixed (sub-zero n)
+less_none (states.Data n) = ap states.Data (sub-zero n)
+less_none (states.Before piece) = refl
+less_none states.Done = refl
+less_none states.Refused = refl
+
+-- nothing came
+none_in : (state : BodyState) (old new : List ℕ) → new ≡ old → Advances state old [] (less state 0) new
+none_in state old new is =
+    subst (λ (s : BodyState). Advances state old [] s new) (sym (less_none state)) (subst (λ (b : List ℕ). Advances state old [] state b) (sym is) (advances_none state old))
+
+pub step_in : (step : BodyStep) (state : BodyState) (room old new : List ℕ) → count_of step ≤ due state → GivesSome step room old new
+    → Advances state old (given step room) (less state (count_of step)) new
+step_in (steps.Bytes n) state room old new few (fits, is) =
+    let long : length (take n room) ≡ n = length-take-le n room fits in
+    let within : length (take n room) ≤ due state = omega (arith, few, long) in
+    subst (λ (k : ℕ). Advances state old (take n room) (less state k) new) long
+    (subst (λ (b : List ℕ). Advances state b (take n room) (less state (length (take n room))) new) (sym is) (advances_in state (take n room) new within))
+step_in steps.End state room old new few x = absurd x
+step_in steps.Cut state room old new few x = none_in state old new (x.1 ∙ sym x.0)
+step_in steps.Bad state room old new few x = absurd x
+step_in steps.SourceFault state room old new few x = none_in state old new x
+step_in steps.Long state room old new few x = none_in state old new x
+
+-- an input that ends inside the data
+pub cut_in : (state : BodyState) (bytes : List ℕ) → 0 < due state → bytes ≡ [] → Stops state bytes [] is_cut_short
+cut_in (states.Fixed n) bytes some none = (omega (arith, some, ap length none), sym none, refl)
+cut_in (states.Data n) bytes some none = (omega (arith, some, ap length none), sym none, refl)
+cut_in (states.Before piece) bytes some none = absurd (omega (arith, some))
+cut_in states.Done bytes some none = absurd (omega (arith, some))
+cut_in states.Refused bytes some none = absurd (omega (arith, some))
+
+pub end_in : (step : BodyStep) (state : BodyState) (room old new : List ℕ) → 0 < due state → GivesSome step room old new → IsEndOf step (less state (count_of step)) new
+end_in (steps.Bytes n) state room old new some x = tt
+end_in steps.End state room old new some x = absurd x
+end_in steps.Cut state room old new some x =
+    subst (λ (s : BodyState). Runs s new [] is_cut_short) (sym (less_none state)) (stops state new [] is_cut_short (cut_in state new some x.1))
+end_in steps.Bad state room old new some x = absurd x
+end_in steps.SourceFault state room old new some x = tt
+end_in steps.Long state room old new some x = tt

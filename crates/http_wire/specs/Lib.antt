@@ -1,0 +1,10 @@
+pub mod Flow
+pub mod Fields
+pub mod Heads
+pub mod Answers
+pub mod Framing
+pub mod Questions
+pub mod Bodies
+pub mod BodyAnswers
+pub mod Messages
+pub mod Filling

@@ -1,0 +1,216 @@
+//! Bytes that have come from a source, and were not read yet.
+ghost use Rattle.std.specs.Prelude.{◌≡◌, ℕ, ◌+◌, ◌-◌, ◌^◌, ◌<◌, ◌≤◌, ◌≢◌, [], ◌++◌, min, length, vec_len, take, drop, slice_range, IfOk, IsErr, MatchResult};
+ghost use Rattle.std.specs.Io.KnownBytes.{ReadConsumes, Keeps, IsAtEnd};
+ghost use Rattle.reg_names.specs.Cause.{HasCause};
+ghost use Rattle.depot_api.specs.Streams.{counted};
+ghost use Rattle.http_wire.specs.Answers.{Judges};
+ghost use Rattle.http_wire.specs.BodyAnswers.{JudgesFront, FitsFront};
+ghost use Rattle.http_wire.specs.Flow.{stream, IsBounded, Counts};
+ghost use Rattle.http_wire.specs.Flow as words;
+
+use crate::NoMemory;
+use crate::body::Piece;
+use crate::judge::{Judged, judge};
+use crate::pieces::{PieceJudged, judge_piece, limit};
+use depot_api::{Source, SourceFault};
+use httparse::spans::{EMPTY_HEADER_SPAN, HeaderSpan};
+use std::alloc::Global;
+use std::marker::Model;
+
+/// The most bytes of a head, and of the trailer section of a body.
+pub(crate) const ROOM: usize = 16_384;
+
+// More than the fields that so many bytes can hold.
+const SPANS: usize = 8_192;
+
+// A feed that has taken so many bytes takes no more.
+const MOST_TAKEN: u64 = 1_125_899_906_842_624;
+
+/// A buffer between a source and the readers of messages, which is filled from the source piece by piece. Contracts see the bytes that wait
+/// in it, and how many bytes it has taken in all.
+#[derive(Drop)]
+pub struct Feed {
+    buffer: Vec<u8>,
+    spans: Vec<HeaderSpan>,
+    start: usize,
+    end: usize,
+    taken: u64,
+}
+
+impl Model for Feed {
+    ghost use Rattle.std.specs.Prelude.{◌≡◌, ◌+◌, ◌-◌, ◌^◌, ◌<◌, ◌≤◌, slice_range, length};
+    ghost use Rattle.http_wire.specs.Answers.{Judges};
+    ghost use Rattle.http_wire.specs.Flow.{Flow};
+
+    ghost Value = { Flow };
+
+    ghost view = { λ f. record { pending = slice_range f.buffer.items f.start f.end; taken = f.taken } };
+
+    ghost invariant = { λ f. (f.start ≤ f.end) × (f.end ≤ 16384) × (length f.buffer.items ≡ 16384) × (length f.spans.items ≡ 8192) × (f.taken < 2 ^ 50 + 2 ^ 15) × (f.end - f.start ≤ f.taken) };
+}
+
+/// What came of a try to get more bytes.
+#[derive(Clone, Copy, Debug, PartialEq, Eq)]
+pub(crate) enum Refill {
+    More,
+    /// The input has ended.
+    Ended,
+    SourceFault,
+    Long,
+}
+
+impl Feed {
+    /// An empty feed. It takes all the memory that it will ever need, about 280 KB.
+    pub fn new(alloc: Global) -> Result<Feed, NoMemory>
+        ensures pending { IfOk result (λ f. f.pending ≡ []) }
+        ensures taken { IfOk result (λ f. f.taken ≡ 0) }
+    {
+        Ok(Feed {
+            buffer: empty_buffer(alloc, ROOM)?,
+            spans: empty_spans(alloc, SPANS)?,
+            start: 0,
+            end: 0,
+            taken: 0,
+        })
+    }
+
+    /// The bytes that wait.
+    pub(crate) fn pending(&self) -> &[u8]
+        ensures bytes { result.now ≡ self.now.pending }
+        ensures few { length self.now.pending ≤ 16384 }
+        ensures bounded { IsBounded self.now }
+    {
+        &self.buffer[self.start..self.end]
+    }
+
+    /// What the bytes that wait are known to be.
+    pub(crate) fn judge(&mut self, alloc: Global) -> Judged
+        ensures kept { self.new ≡ self.old }
+        ensures judged { Judges result self.old.pending }
+        ensures few { length self.old.pending ≤ 16384 }
+        ensures bounded { IsBounded self.old }
+    {
+        judge(alloc, &self.buffer[self.start..self.end], &mut self.spans)
+    }
+
+    /// What the bytes that wait are known to be, in a chunked body that has come before such a piece.
+    pub(crate) fn judge_piece(&mut self, piece: Piece) -> PieceJudged
+        ensures kept { self.new ≡ self.old }
+        ensures judged { JudgesFront result piece self.old.pending }
+        ensures fits { FitsFront result self.old.pending }
+        ensures bounded { IsBounded self.old }
+    {
+        let end = self.end.min(self.start + limit(piece));
+        judge_piece(piece, &self.buffer[self.start..end], &mut self.spans)
+    }
+
+    /// Copies bytes off the front: as many as there are and as there is room for.
+    pub(crate) fn copy_to(&mut self, into: &mut [u8]) -> usize
+        ensures count { result ≡ min (length self.old.pending) (length into.old) }
+        ensures bytes { self.old.pending ≡ take result into.new ++ self.new.pending }
+        ensures taken { self.new.taken ≡ self.old.taken }
+        ensures bounded { IsBounded self.old × IsBounded self.new }
+    {
+        let count = into.len().min(self.end - self.start);
+        into[..count].copy_from_slice(&self.buffer[self.start..self.start + count]);
+        self.start += count;
+        count
+    }
+
+    /// Takes bytes off the front.
+    pub(crate) fn skip(&mut self, count: usize)
+        requires { count ≤ length self.old.pending }
+        ensures pending { self.new.pending ≡ drop count self.old.pending }
+        ensures taken { self.new.taken ≡ self.old.taken }
+    {
+        self.start += count;
+    }
+
+    /// Reads once from the source, where no bytes wait.
+    pub(crate) fn wait<S: Source>(&mut self, source: &mut S) -> Refill
+        ensures bytes { Keeps (stream self.old (S.left source.old)) (stream self.new (S.left source.new)) }
+        ensures some { result ≡ Refill.More → 0 < length self.new.pending }
+        ensures ended { result ≡ Refill.Ended → (self.new.pending ≡ []) × IsAtEnd (S.left source.new) }
+        ensures cause { HasCause (S.faults source.old) (S.faults source.new) (result ≡ Refill.SourceFault) }
+        ensures long { result ≡ Refill.Long → 2 ^ 50 ≤ self.new.taken }
+        ensures counts { Counts self.old (S.given source.old) self.new (S.given source.new) }
+        ensures read_already { words.spent self.new ≡ words.spent self.old }
+    {
+        if !self.pending().is_empty() {
+            return Refill::More;
+        }
+        self.refill(source)
+    }
+
+    /// Reads once from the source, behind the bytes that wait.
+    pub(crate) fn refill<S: Source>(&mut self, source: &mut S) -> Refill
+        requires { length self.old.pending < 16384 }
+        ensures bytes { Keeps (stream self.old (S.left source.old)) (stream self.new (S.left source.new)) }
+        ensures grows { result ≡ Refill.More → length self.old.pending < length self.new.pending }
+        ensures kept { result ≢ Refill.More → self.new ≡ self.old }
+        ensures ended { result ≡ Refill.Ended → IsAtEnd (S.left source.new) }
+        ensures cause { HasCause (S.faults source.old) (S.faults source.new) (result ≡ Refill.SourceFault) }
+        ensures long { result ≡ Refill.Long → 2 ^ 50 ≤ self.new.taken }
+        ensures counts { Counts self.old (S.given source.old) self.new (S.given source.new) }
+        ensures read_already { words.spent self.new ≡ words.spent self.old }
+    {
+        if self.taken >= MOST_TAKEN {
+            return Refill::Long;
+        }
+        let waiting = self.end - self.start;
+        let outcome = fill(&mut self.buffer, self.start, self.end, source);
+        self.start = 0;
+        self.end = waiting;
+        match outcome {
+            Ok(0) => Refill::Ended,
+            Ok(count) => {
+                self.end = waiting + count;
+                self.taken += count as u64;
+                Refill::More
+            }
+            Err(SourceFault) => Refill::SourceFault,
+        }
+    }
+}
+
+// So many bytes for a source to fill.
+fn empty_buffer(alloc: Global, length: usize) -> Result<Vec<u8>, NoMemory>
+    ensures { IfOk result (λ v. vec_len v ≡ length) }
+{
+    Ok(vec![in alloc; 0u8; length]?)
+}
+
+fn empty_spans(alloc: Global, length: usize) -> Result<Vec<HeaderSpan>, NoMemory>
+    ensures { IfOk result (λ v. vec_len v ≡ length) }
+{
+    Ok(vec![in alloc; EMPTY_HEADER_SPAN; length]?)
+}
+
+// Moves `start..end` to the front, and reads once into what is behind.
+fn fill<S: Source>(
+    buffer: &mut [u8],
+    start: usize,
+    end: usize,
+    source: &mut S,
+) -> Result<usize, SourceFault>
+    requires ordered { start ≤ end }
+    requires within { end ≤ length buffer.old }
+    ensures moved { take (end - start) buffer.new ≡ slice_range buffer.old start end }
+    ensures fits { IfOk result (λ n. end - start + n ≤ length buffer.old) }
+    ensures bytes { ReadConsumes (S.left source.old) (S.left source.new) result (drop (end - start) buffer.new) }
+    ensures count { MatchResult result (λ n. S.given source.new ≡ counted (S.given source.old) n) (λ _. S.given source.new ≡ S.given source.old) }
+    ensures cause { HasCause (S.faults source.old) (S.faults source.new) (IsErr result) }
+{
+    move_to_front(buffer, start, end);
+    source.read(&mut buffer[end - start..])
+}
+
+fn move_to_front(buffer: &mut [u8], start: usize, end: usize)
+    requires ordered { start ≤ end }
+    requires within { end ≤ length buffer.old }
+    ensures { take (end - start) buffer.new ≡ slice_range buffer.old start end }
+{
+    if start > 0 {
+        buffer.copy_within(start..end, 0);
+    }
+}

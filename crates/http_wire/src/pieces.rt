@@ -1,0 +1,130 @@
+//! The pieces of a chunked body that stand between its data.
+ghost use Rattle.std.specs.Prelude.{◌≡◌, ℕ, ◌+◌, ◌<◌, ◌≤◌, ◌^◌, List, length, take, drop, min};
+ghost use Rattle.reg_names.specs.Cause.{HasCause};
+ghost use Rattle.http_wire.specs.BodyAnswers.{limit_of, JudgesPiece, IsBehind, Takes};
+ghost use Rattle.http_wire.specs.Bodies as bodies;
+ghost use Rattle.http_wire.specs.Flow.{stream, spent, IsBounded, OnStream, Counts};
+
+use crate::body::{BodyState, Piece};
+use crate::feed::Refill;
+use crate::{Feed, Source};
+use httparse::spans::{HeaderSpan, parse_headers};
+use httparse::{Status, parse_chunk_size};
+
+/// What the front of a stream is known to be. A whole piece comes with the state behind it and the number of its bytes.
+#[derive(Clone, Copy, Debug, PartialEq, Eq)]
+pub(crate) enum PieceJudged {
+    Whole(BodyState, usize),
+    Bad,
+    /// More bytes have to come.
+    Open,
+}
+
+/// What came of the try to take a piece off a stream.
+#[derive(Clone, Copy, Debug, PartialEq, Eq)]
+pub(crate) enum Taken {
+    Next(BodyState),
+    Bad,
+    Cut,
+    SourceFault,
+    Long,
+}
+
+/// The most bytes of a piece.
+pub(crate) fn limit(piece: Piece) -> usize
+    ensures { result ≡ limit_of piece }
+{
+    match piece {
+        Piece::Gap => 2,
+        Piece::Line => 1_024,
+        Piece::Trailer => 16_384,
+    }
+}
+
+/// Judges bytes that are no more than the piece may have.
+pub(crate) fn judge_piece(piece: Piece, bytes: &[u8], spans: &mut [HeaderSpan]) -> PieceJudged
+    requires few { length bytes.now ≤ limit_of piece }
+    requires room { length spans.old ≡ 8192 }
+    ensures { JudgesPiece result piece bytes.now }
+{
+    match piece {
+        Piece::Gap => judge_gap(bytes),
+        Piece::Line => judge_line(bytes),
+        Piece::Trailer => judge_trailer(bytes, spans),
+    }
+}
+
+fn judge_gap(bytes: &[u8]) -> PieceJudged
+    requires { length bytes.now ≤ 2 }
+    ensures { JudgesPiece result Piece.Gap bytes.now }
+{
+    match bytes {
+        [] => PieceJudged::Open,
+        [b'\r'] => PieceJudged::Open,
+        [b'\r', b'\n'] => PieceJudged::Whole(BodyState::Before(Piece::Line), 2),
+        _ => PieceJudged::Bad,
+    }
+}
+
+fn judge_line(bytes: &[u8]) -> PieceJudged
+    requires { length bytes.now ≤ 1024 }
+    ensures { JudgesPiece result Piece.Line bytes.now }
+{
+    match parse_chunk_size(bytes) {
+        Ok(Status::Complete((count, size))) => PieceJudged::Whole(after_size(size), count),
+        Ok(Status::Partial) if bytes.len() < limit(Piece::Line) => PieceJudged::Open,
+        Ok(Status::Partial) => PieceJudged::Bad,
+        Err(_) => PieceJudged::Bad,
+    }
+}
+
+fn after_size(size: u64) -> BodyState
+    ensures { result ≡ bodies.after_size size }
+{
+    if size == 0 {
+        BodyState::Before(Piece::Trailer)
+    } else {
+        BodyState::Data(size)
+    }
+}
+
+fn judge_trailer(bytes: &[u8], spans: &mut [HeaderSpan]) -> PieceJudged
+    requires few { length bytes.now ≤ 16384 }
+    requires room { length spans.old ≡ 8192 }
+    ensures { JudgesPiece result Piece.Trailer bytes.now }
+{
+    match parse_headers(bytes, spans) {
+        Ok(Status::Complete((count, _))) => PieceJudged::Whole(BodyState::Done, count),
+        Ok(Status::Partial) if bytes.len() < limit(Piece::Trailer) => PieceJudged::Open,
+        Ok(Status::Partial) => PieceJudged::Bad,
+        Err(_) => PieceJudged::Bad,
+    }
+}
+
+/// Takes a piece off the stream. With any answer but `Next` the stream is as it was.
+pub(crate) fn take_piece<S: Source>(feed: &mut Feed, source: &mut S, piece: Piece) -> Taken
+    ensures answer { OnStream (stream feed.old (S.left source.old)) (stream feed.new (S.left source.new)) (Takes result piece) }
+    ensures next { IsBehind result piece }
+    ensures bounded { IsBounded feed.new }
+    ensures progress { spent feed.old ≤ spent feed.new }
+    ensures cause { HasCause (S.faults source.old) (S.faults source.new) (result ≡ Taken.SourceFault) }
+    ensures long { result ≡ Taken.Long → 2 ^ 50 ≤ feed.new.taken }
+    ensures counts { Counts feed.old (S.given source.old) feed.new (S.given source.new) }
+{
+    loop {
+        match feed.judge_piece(piece) {
+            PieceJudged::Whole(next, count) => {
+                feed.skip(count);
+                return Taken::Next(next);
+            }
+            PieceJudged::Bad => return Taken::Bad,
+            PieceJudged::Open => {}
+        }
+        match feed.refill(source) {
+            Refill::More => {}
+            Refill::Ended => return Taken::Cut,
+            Refill::SourceFault => return Taken::SourceFault,
+            Refill::Long => return Taken::Long,
+        }
+    }
+}

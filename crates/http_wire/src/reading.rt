@@ -1,0 +1,61 @@
+//! Reading the head of a request.
+ghost use Rattle.std.specs.Prelude.{◌≡◌, ℕ, ◌^◌, ◌<◌, ◌≤◌, List};
+ghost use Rattle.reg_names.specs.Cause.{HasCause};
+ghost use Rattle.http_wire.specs.Answers.{IfHead, Tells, EndsAs};
+ghost use Rattle.http_wire.specs.Flow.{stream, spent, IsBounded, OnStream, Counts};
+ghost use Rattle.http_wire.specs.Heads.{Verdict, Holds};
+
+use crate::feed::Refill;
+use crate::judge::{Judged, is_blank};
+use crate::{Feed, Heading, Source};
+use std::alloc::Global;
+
+/// Reads the head that the stream begins with, and takes it off the stream. With any other answer the stream is as it was.
+/// Nothing is judged before a line feed has come that stands past the leading CR and LF bytes, or 16,384 bytes have come.
+pub fn read_head<S: Source>(alloc: Global, feed: &mut Feed, source: &mut S) -> Heading
+    // What the bytes are: the waiting ones and those that the source has left.
+    ensures answer { OnStream (stream feed.old (S.left source.old)) (stream feed.new (S.left source.new)) (Tells result) }
+
+    // That readers come to an end.
+    ensures bounded { IsBounded feed.new }
+    ensures progress { IfHead result (spent feed.old < spent feed.new) }
+
+    // Why it gave up.
+    ensures cause { HasCause (S.faults source.old) (S.faults source.new) (result ≡ Heading.SourceFault) }
+    ensures long { result ≡ Heading.Long → 2 ^ 50 ≤ feed.new.taken }
+    ensures counts { Counts feed.old (S.given source.old) feed.new (S.given source.new) }
+{
+    loop {
+        match feed.judge(alloc) {
+            Judged::Whole(head, count) => {
+                feed.skip(count);
+                return Heading::Head(head);
+            }
+            Judged::Bad(why) => return Heading::Bad(why.number()),
+            Judged::NoMemory => return Heading::NoMemory,
+            Judged::Open => {}
+        }
+        match feed.refill(source) {
+            Refill::More => {}
+            Refill::Ended => return ended(feed.pending()),
+            Refill::SourceFault => return Heading::SourceFault,
+            Refill::Long => return Heading::Long,
+        }
+    }
+}
+
+// What an input that ends here was.
+fn ended(bytes: &[u8]) -> Heading
+    ensures { EndsAs result bytes.now }
+{
+    if is_blank(bytes) {
+        Heading::End
+    } else {
+        Heading::Cut
+    }
+}
+
+/// A law: one answer at most holds of a stream, and a head is one.
+pub fn heads_are_exact()
+    ensures { (bytes : List ℕ) (one other : Verdict) → Holds bytes one → Holds bytes other → one ≡ other }
+{}

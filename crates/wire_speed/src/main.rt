@@ -1,0 +1,197 @@
+//! Reads all requests of standard input, which a benchmark measures.
+//! It is given `read` or `stage`, and prints how many requests there are and how many bytes their bodies have: `read` decodes
+//! each body into a room, `stage` into a stage in memory. To compare, `copy` counts all bytes, and `input` only gets them.
+//! `requests` promises that what it counts are the messages of the stream, up to one that ends the connection.
+//! Whoever serves a registry reads requests so.
+#![tactic(auto)]
+
+ghost use Rattle.std.specs.Prelude.{◌≡◌, ◌≤◌, IfSome};
+ghost use Rattle.http_wire.specs.Flow.{stream, OnStream};
+ghost use Rattle.wire_speed.specs.Counting.{IsCounted, HasLength, IsNext};
+
+use depot_api::memory::{MemSource, MemStage};
+use depot_api::{Bytes, Source};
+use http_wire::{
+    BodyReader, BodyStep, BodyTaken, Feed, Framing, Heading, ends_connection, framing, read_body,
+    read_head, take_body,
+};
+use std::alloc::Global;
+use std::env;
+use std::io::Read;
+use std::process::ExitCode;
+
+// The bytes that are read at once.
+const ROOM: usize = 16_384;
+
+// The most bytes of one body that is staged.
+const MOST: u64 = 1 << 62;
+
+fn main(rt: HostRuntime) -> ExitCode {
+    match counted(&rt) {
+        Some((requests, bytes)) => match println!(rt; "{requests} requests, {bytes} bytes") {
+            Ok(()) => ExitCode::SUCCESS,
+            Err(_) => ExitCode::FAILURE,
+        },
+        None => ExitCode::FAILURE,
+    }
+}
+
+// How many requests and bytes the input has.
+fn counted(rt: &HostRuntime) -> Option<(u64, u64)> {
+    let way = env::args(rt).ok()?.nth(1)?;
+    let mut source = input(rt)?;
+    let mut room = vec![in rt.alloc(); 0u8; ROOM].ok()?;
+    match way.as_str() {
+        "input" => Some((0, 0)),
+        "copy" => copied(&mut source, &mut room),
+        "read" => read_all(rt.alloc(), &mut source, false, &mut room),
+        "stage" => read_all(rt.alloc(), &mut source, true, &mut room),
+        _ => None,
+    }
+}
+
+fn read_all(
+    alloc: Global,
+    source: &mut MemSource,
+    staged: bool,
+    room: &mut [u8],
+) -> Option<(u64, u64)> {
+    let mut feed = Feed::new(alloc).ok()?;
+    requests(alloc, &mut feed, source, staged, room)
+}
+
+// Standard input, read to its end.
+fn input(rt: &HostRuntime) -> Option<MemSource> {
+    let mut bytes = Vec::new(rt.alloc());
+    rt.stdin().read_to_end(&mut bytes).ok()?;
+    let (pieces, fail) = (Vec::new(rt.alloc()), Vec::new(rt.alloc()));
+    MemSource::new(rt.alloc(), Bytes::from_vec(bytes), pieces, fail).ok()
+}
+
+fn copied<S: Source>(source: &mut S, room: &mut [u8]) -> Option<(u64, u64)>
+    ensures later { S.faults source.old ≤ S.faults source.new }
+{
+    let mut bytes = 0_u64;
+    for _ in 0..u64::MAX {
+        match source.read(room) {
+            Ok(0) => return Some((0, bytes)),
+            Ok(count) => bytes = bytes.saturating_add(count as u64),
+            Err(_) => return None,
+        }
+    }
+    None
+}
+
+// How many requests come on a stream, and how many bytes their bodies, which may be staged.
+fn requests<S: Source>(
+    alloc: Global,
+    feed: &mut Feed,
+    source: &mut S,
+    staged: bool,
+    room: &mut [u8],
+) -> Option<(u64, u64)>
+    ensures messages { IfSome result (λ counted. OnStream (stream feed.old (S.left source.old)) (stream feed.new (S.left source.new)) (λ old new. IsCounted counted old)) }
+{
+    let mut requests = 0_u64;
+    let mut bytes = 0_u64;
+    for _ in 0..u64::MAX {
+        match read_next(alloc, feed, source, staged, room)? {
+            Next::Request(count, last) => {
+                requests = requests.checked_add(1)?;
+                bytes = bytes.checked_add(count)?;
+                if last {
+                    return Some((requests, bytes));
+                }
+            }
+            Next::End => return Some((requests, bytes)),
+        }
+    }
+    None
+}
+
+/// What comes next on a stream.
+#[derive(Clone, Copy, Debug)]
+enum Next {
+    /// A request: how many bytes its body has, and whether the connection ends behind it.
+    Request(u64, bool),
+    End,
+}
+
+fn read_next<S: Source>(
+    alloc: Global,
+    feed: &mut Feed,
+    source: &mut S,
+    staged: bool,
+    room: &mut [u8],
+) -> Option<Next>
+    ensures next { IfSome result (λ next. OnStream (stream feed.old (S.left source.old)) (stream feed.new (S.left source.new)) (IsNext next)) }
+{
+    match read_head(alloc, feed, source) {
+        Heading::Head(head) => {
+            let count = body_length(alloc, feed, source, framing(&head), staged, room)?;
+            Some(Next::Request(count, ends_connection(&head)))
+        }
+        Heading::End => Some(Next::End),
+        _ => None,
+    }
+}
+
+fn body_length<S: Source>(
+    alloc: Global,
+    feed: &mut Feed,
+    source: &mut S,
+    framing: Framing,
+    staged: bool,
+    room: &mut [u8],
+) -> Option<u64>
+    ensures body { IfSome result (λ n. OnStream (stream feed.old (S.left source.old)) (stream feed.new (S.left source.new)) (HasLength framing n)) }
+{
+    if staged {
+        body_staged(alloc, feed, source, framing)
+    } else {
+        body_read(feed, source, framing, room)
+    }
+}
+
+// The length of a body that is read.
+fn body_read<S: Source>(
+    feed: &mut Feed,
+    source: &mut S,
+    framing: Framing,
+    room: &mut [u8],
+) -> Option<u64>
+    ensures body { IfSome result (λ n. OnStream (stream feed.old (S.left source.old)) (stream feed.new (S.left source.new)) (HasLength framing n)) }
+{
+    let mut body = BodyReader::new(framing);
+    let mut bytes = 0_u64;
+    for _ in 0..u64::MAX {
+        match read_body(feed, source, &mut body, room) {
+            BodyStep::Bytes(count) => bytes = bytes.checked_add(count as u64)?,
+            BodyStep::End => return Some(bytes),
+            _ => return None,
+        }
+    }
+    None
+}
+
+// The length of a body that is staged.
+fn body_staged<S: Source>(
+    alloc: Global,
+    feed: &mut Feed,
+    source: &mut S,
+    framing: Framing,
+) -> Option<u64>
+    ensures body { IfSome result (λ n. OnStream (stream feed.old (S.left source.old)) (stream feed.new (S.left source.new)) (HasLength framing n)) }
+{
+    let mut stage = MemStage::new(alloc, Vec::new(alloc));
+    match take_body(
+        feed,
+        source,
+        &mut BodyReader::new(framing),
+        MOST,
+        &mut stage,
+    ) {
+        BodyTaken::Whole(length) => Some(length),
+        _ => None,
+    }
+}
