@@ -1,7 +1,6 @@
 pub mod SendingLaws
-pub mod CutLaws
-pub mod RequestLaws
-pub mod FrontLaws
+pub mod BlobLaws
 pub mod EndLaws
-pub mod InMemoryLaws
+pub mod ListLaws
 pub mod ReplyLaws
+pub mod InMemoryLaws

@@ -1,66 +1,193 @@
--- An input has one reading and one reply.
-use Rattle.std.proofs.Common.{◌≡◌, ◌≢◌, ℕ, true, List, ◌++◌, length, take, Option, Some, None, refl, sym, ap, ◌∙◌}
-use Rattle.std.proofs.lemmas.List.{take_at}
+-- An input has one reply, and one that is empty or cut has none.
+use Rattle.std.proofs.Common.{◌≡◌, ◌≢◌, ℕ, true, List, length, Some, None, refl, sym, ap, ◌∙◌, subst, inl, inr}
+use Rattle.std.specs.Prelude.{IsSome}
+use Rattle.reg_names.specs.declared.reference.Reference.{Reference}
+use Rattle.reg_entries.specs.State.{IsKnown}
+use Rattle.reg_entries.proofs.ListingLaws.{listing_alone}
 use Rattle.depot_api.specs.Files.{Files}
-use Rattle.link_reading.specs.Meaning.{tag_at, manifest_at, data_at}
+use Rattle.link_reading.specs.Meaning.{Means, kept, data_at}
 use Rattle.link_reading.specs.declared.manifests.StoredManifest.{StoredManifest}
+use Rattle.pull_reading.specs.declared.ask.Ask.{Ask}
+use Rattle.pull_reading.specs.declared.ask.Ask.TheVariants as asks
+use Rattle.pull_reading.specs.declared.reading.Asked.TheVariants as asked
+use Rattle.pull_reading.specs.Requests.{Reads}
+use Rattle.pull_reading.proofs.ReadingLaws.{one_reading}
 use Rattle.registry.specs.declared.reply.Reply.{Reply}
 use Rattle.registry.specs.declared.reply.Reply.TheVariants as replies
 use Rattle.registry.specs.declared.reply.Refusal.{Refusal}
-use Rattle.registry.specs.declared.reply.Refusal.TheVariants.{ManifestUnknown, NotARequest, StorageFault, NoMemory}
-use Rattle.registry.specs.Requests.{IsRequest, BeginsWithRequest}
-use Rattle.registry.specs.Runs.{PointsTo, AsksWhere, IsReply}
-use Rattle.registry.specs.Fronts.{head_end}
-use Rattle.registry.specs.Parsing.{target}
-use Rattle.registry.proofs.RequestLaws.{request_host, request_target, request_names}
-use Rattle.registry.proofs.FrontLaws.{request_reaches}
-
-one_reading_of_head : (head n t m u : List ℕ) → IsRequest head n t → IsRequest head m u → (n ≡ m) × (t ≡ u)
-one_reading_of_head head n t m u r s = request_names head (target m u) s.host m u n t (request_host head m u s) (request_target m u s.of_tag) r
+use Rattle.registry.specs.declared.reply.Refusal.TheVariants.{NameUnknown, BlobUnknown, ManifestUnknown, NotARequest, StorageFault, NoMemory}
+use Rattle.registry.specs.Answers.{IsAnswer, IsRefusal, Lacks, HasManifest, HasBlob, HasTags}
+use Rattle.registry.specs.Runs.{IsReply, IsSilent, nothing, inside}
 
 some_same : {A : Type 0} (x y : A) → Some x ≡ Some y → x ≡ y
 some_same x y e = cc e
 
-pub one_reading : (input n t m u : List ℕ) → BeginsWithRequest input n t → BeginsWithRequest input m u → (n ≡ m) × (t ≡ u)
-one_reading input n t m u b d =
-    let first = ap head_end b.split ∙ request_reaches b.head n t b.rest b.request in
-    let second = ap head_end d.split ∙ request_reaches d.head m u d.rest d.request in
-    let long : length b.head ≡ length d.head = some_same _ _ (sym first ∙ second) in
-    let front : take (length b.head) input ≡ b.head = ap (take (length b.head)) b.split ∙ take_at b.head b.rest (length b.head) refl in
-    let other : take (length b.head) input ≡ d.head = ap (take (length b.head)) d.split ∙ take_at d.head d.rest (length b.head) (sym long) in
-    one_reading_of_head b.head n t m u b.request (rw (sym other ∙ front) at d.request)
+-- ---- one answer to an ask
 
-one_manifest : (files : Files) (name tag : List ℕ) (m w : StoredManifest) → PointsTo files name tag m → PointsTo files name tag w → m ≡ w
-one_manifest files name tag m w p q =
+one_manifest : (files : Files) (name : List ℕ) (reference : Reference) (m w : StoredManifest) → HasManifest files name reference m → HasManifest files name reference w → m ≡ w
+one_manifest files name reference m w p q =
     let digest : m.digest ≡ w.digest = some_same _ _ (sym p.digest ∙ q.digest) in
-    let kind : m.kind ≡ w.kind = some_same _ _ (sym p.kind ∙ ap (manifest_at files name) digest ∙ q.kind) in
+    let same : kept (length m.bytes) m.doc ≡ kept (length w.bytes) w.doc = some_same _ _ (sym p.manifest ∙ ap ((Means files).manifests name) digest ∙ q.manifest) in
+    let doc : m.doc ≡ w.doc = λ i. record { kind = (same i).kind; named = (same i).named; children = (same i).children } in
     let bytes : m.bytes ≡ w.bytes = some_same _ _ (sym p.bytes ∙ ap (data_at files) digest ∙ q.bytes) in
-    λ i. record { digest = digest i; kind = kind i; bytes = bytes i }
+    λ i. record { digest = digest i; doc = doc i; bytes = bytes i }
 
-no_manifest : (files : Files) (input : List ℕ) (m : StoredManifest) (r : Refusal) → IsReply true files ⊥ (Some input) (replies.Manifest m) → IsReply true files ⊥ (Some input) (replies.Refused r) → r ≢ NoMemory → ⊥
-no_manifest files input m ManifestUnknown h k n =
-    let same = one_reading input h.name h.tag k.name k.tag h.asked k.asked in
-    cc ((h.so refl).digest, k.so refl, same.0, same.1)
-no_manifest files input m NotARequest h k n = k h.name h.tag h.asked
-no_manifest files input m StorageFault h k n = k.so
-no_manifest files input m NoMemory h k n = n refl
+-- a repository with a manifest is known, however it is asked for
+known_by_manifest : (files : Files) (name : List ℕ) (reference : Reference) (m : StoredManifest) → HasManifest files name reference m → IsKnown (Means files) name
+known_by_manifest files name reference m p = inl (m.digest, subst IsSome (sym p.manifest) refl)
 
-one_refusal : (files : Files) (input : List ℕ) (r s : Refusal) → IsReply true files ⊥ (Some input) (replies.Refused r) → IsReply true files ⊥ (Some input) (replies.Refused s) → r ≢ NoMemory → s ≢ NoMemory → r ≡ s
-one_refusal files input ManifestUnknown ManifestUnknown h k n o = refl
-one_refusal files input ManifestUnknown NotARequest h k n o = absurd (k h.name h.tag h.asked)
-one_refusal files input NotARequest ManifestUnknown h k n o = absurd (h k.name k.tag k.asked)
-one_refusal files input NotARequest NotARequest h k n o = refl
-one_refusal files input StorageFault s h k n o = absurd h.so
-one_refusal files input ManifestUnknown StorageFault h k n o = absurd k.so
-one_refusal files input NotARequest StorageFault h k n o = absurd k.so
-one_refusal files input NoMemory s h k n o = absurd (n refl)
-one_refusal files input ManifestUnknown NoMemory h k n o = absurd (o refl)
-one_refusal files input NotARequest NoMemory h k n o = absurd (o refl)
+known_by_blob : (files : Files) (name digest bytes : List ℕ) → HasBlob files name digest bytes → IsKnown (Means files) name
+known_by_blob files name digest bytes p = inr (digest, subst IsSome (sym p.linked) refl)
 
-pub one_reply : (files : Files) (input : List ℕ) (r s : Reply) → IsReply true files ⊥ (Some input) r → IsReply true files ⊥ (Some input) s → r ≢ replies.Refused NoMemory → s ≢ replies.Refused NoMemory → r ≡ s
-one_reply files input (replies.Manifest m) (replies.Manifest w) h k n o =
-    let same = one_reading input h.name h.tag k.name k.tag h.asked k.asked in
-    ap replies.Manifest (one_manifest files k.name k.tag m w (rw (same.0, same.1) at (h.so refl)) (k.so refl))
-one_reply files input (replies.Manifest m) (replies.Refused s) h k n o = absurd (no_manifest files input m s h k (λ e. o (ap replies.Refused e)))
-one_reply files input (replies.Refused r) (replies.Manifest w) h k n o = absurd (no_manifest files input w r k h (λ e. n (ap replies.Refused e)))
-one_reply files input (replies.Refused r) (replies.Refused s) h k n o = ap replies.Refused (one_refusal files input r s h k (λ e. n (ap replies.Refused e)) (λ e. o (ap replies.Refused e)))
+-- what is there is not refused
+found_manifest : (files : Files) (name : List ℕ) (reference : Reference) (m : StoredManifest) (r : Refusal) → HasManifest files name reference m → IsRefusal true files ⊥ (asks.Manifest name reference) r → r ≢ NoMemory → ⊥
+found_manifest files name reference m NameUnknown p h n = h refl (known_by_manifest files name reference m p)
+found_manifest files name reference m BlobUnknown p h n = h refl
+found_manifest files name reference m ManifestUnknown p h n = let none = (h refl).1 in cc (p.digest, none)
+found_manifest files name reference m NotARequest p h n = h
+found_manifest files name reference m StorageFault p h n = h
+found_manifest files name reference m NoMemory p h n = n refl
+
+found_blob : (files : Files) (name digest bytes : List ℕ) (r : Refusal) → HasBlob files name digest bytes → IsRefusal true files ⊥ (asks.Blob name digest) r → r ≢ NoMemory → ⊥
+found_blob files name digest bytes NameUnknown p h n = h refl (known_by_blob files name digest bytes p)
+found_blob files name digest bytes BlobUnknown p h n = let none = (h refl).1 in cc (p.linked, none)
+found_blob files name digest bytes ManifestUnknown p h n = h refl
+found_blob files name digest bytes NotARequest p h n = h
+found_blob files name digest bytes StorageFault p h n = h
+found_blob files name digest bytes NoMemory p h n = n refl
+
+found_tags : (files : Files) (name : List ℕ) (tags : List (List ℕ)) (r : Refusal) → HasTags files name tags → IsRefusal true files ⊥ (asks.Tags name) r → r ≢ NoMemory → ⊥
+found_tags files name tags NameUnknown p h n = h refl p.known
+found_tags files name tags BlobUnknown p h n = h refl
+found_tags files name tags ManifestUnknown p h n = h refl
+found_tags files name tags NotARequest p h n = h
+found_tags files name tags StorageFault p h n = h
+found_tags files name tags NoMemory p h n = n refl
+
+-- a repository that lacks what is asked for is known
+lacks_known : (files : Files) (ask : Ask) (r : Refusal) → Lacks files ask r → ¬ IsRefusal true files ⊥ ask NameUnknown
+lacks_known files (asks.Manifest name reference) ManifestUnknown h k = k refl h.0
+lacks_known files (asks.Manifest name reference) NameUnknown h k = h
+lacks_known files (asks.Manifest name reference) BlobUnknown h k = h
+lacks_known files (asks.Manifest name reference) NotARequest h k = h
+lacks_known files (asks.Manifest name reference) StorageFault h k = h
+lacks_known files (asks.Manifest name reference) NoMemory h k = h
+lacks_known files (asks.Blob name digest) BlobUnknown h k = k refl h.0
+lacks_known files (asks.Blob name digest) NameUnknown h k = h
+lacks_known files (asks.Blob name digest) ManifestUnknown h k = h
+lacks_known files (asks.Blob name digest) NotARequest h k = h
+lacks_known files (asks.Blob name digest) StorageFault h k = h
+lacks_known files (asks.Blob name digest) NoMemory h k = h
+lacks_known files (asks.Tags name) r h k = h
+
+-- nothing is lacked as a blob and as a manifest
+lacks_one : (files : Files) (ask : Ask) → Lacks files ask BlobUnknown → Lacks files ask ManifestUnknown → ⊥
+lacks_one files (asks.Manifest name reference) h k = h
+lacks_one files (asks.Blob name digest) h k = k
+lacks_one files (asks.Tags name) h k = h
+
+one_refusal : (files : Files) (ask : Ask) (r s : Refusal) → IsRefusal true files ⊥ ask r → IsRefusal true files ⊥ ask s → r ≢ NoMemory → s ≢ NoMemory → r ≡ s
+one_refusal files ask NotARequest s h k n o = absurd h
+one_refusal files ask StorageFault s h k n o = absurd h
+one_refusal files ask NoMemory s h k n o = absurd (n refl)
+one_refusal files ask NameUnknown NameUnknown h k n o = refl
+one_refusal files ask NameUnknown BlobUnknown h k n o = absurd (lacks_known files ask BlobUnknown (k refl) h)
+one_refusal files ask NameUnknown ManifestUnknown h k n o = absurd (lacks_known files ask ManifestUnknown (k refl) h)
+one_refusal files ask NameUnknown NotARequest h k n o = absurd k
+one_refusal files ask NameUnknown StorageFault h k n o = absurd k
+one_refusal files ask NameUnknown NoMemory h k n o = absurd (o refl)
+one_refusal files ask BlobUnknown NameUnknown h k n o = absurd (lacks_known files ask BlobUnknown (h refl) k)
+one_refusal files ask BlobUnknown BlobUnknown h k n o = refl
+one_refusal files ask BlobUnknown ManifestUnknown h k n o = absurd (lacks_one files ask (h refl) (k refl))
+one_refusal files ask BlobUnknown NotARequest h k n o = absurd k
+one_refusal files ask BlobUnknown StorageFault h k n o = absurd k
+one_refusal files ask BlobUnknown NoMemory h k n o = absurd (o refl)
+one_refusal files ask ManifestUnknown NameUnknown h k n o = absurd (lacks_known files ask ManifestUnknown (h refl) k)
+one_refusal files ask ManifestUnknown BlobUnknown h k n o = absurd (lacks_one files ask (k refl) (h refl))
+one_refusal files ask ManifestUnknown ManifestUnknown h k n o = refl
+one_refusal files ask ManifestUnknown NotARequest h k n o = absurd k
+one_refusal files ask ManifestUnknown StorageFault h k n o = absurd k
+one_refusal files ask ManifestUnknown NoMemory h k n o = absurd (o refl)
+
+one_blob : (files : Files) (digest of of' bytes bytes' : List ℕ) → of ≡ digest → of' ≡ digest → data_at files digest ≡ Some bytes → data_at files digest ≡ Some bytes' → replies.Blob of bytes ≡ replies.Blob of' bytes'
+one_blob files digest of of' bytes bytes' e f g h = let same = some_same _ _ (sym g ∙ h) in cc (e, f, same)
+
+one_listing : (files : Files) (name of of' : List ℕ) (tags tags' : List (List ℕ)) → of ≡ name → of' ≡ name → HasTags files name tags → HasTags files name tags' → ◌≡◌ {A = Reply (List ℕ)} (replies.Tags of tags) (replies.Tags of' tags')
+one_listing files name of of' tags tags' e f g h = let same = (listing_alone (Means files) name None None tags tags' None None g.listing h.listing).0 in cc (e, f, same)
+
+one_answer : (files : Files) (ask : Ask) (r s : Reply (List ℕ)) → IsAnswer true files ⊥ ask r → IsAnswer true files ⊥ ask s → r ≢ replies.Refused NoMemory → s ≢ replies.Refused NoMemory → r ≡ s
+one_answer files (asks.Manifest name reference) (replies.Manifest m) (replies.Manifest w) h k n o = ap replies.Manifest (one_manifest files name reference m w (h refl) (k refl))
+one_answer files (asks.Manifest name reference) (replies.Manifest m) (replies.Refused s) h k n o = absurd (found_manifest files name reference m s (h refl) k (λ e. o (ap replies.Refused e)))
+one_answer files (asks.Manifest name reference) (replies.Refused r) (replies.Manifest w) h k n o = absurd (found_manifest files name reference w r (k refl) h (λ e. n (ap replies.Refused e)))
+one_answer files (asks.Manifest name reference) (replies.Refused r) (replies.Refused s) h k n o = ap replies.Refused (one_refusal files (asks.Manifest name reference) r s h k (λ e. n (ap replies.Refused e)) (λ e. o (ap replies.Refused e)))
+one_answer files (asks.Manifest name reference) (replies.Blob of bytes) s h k n o = absurd h
+one_answer files (asks.Manifest name reference) (replies.Tags of tags) s h k n o = absurd h
+one_answer files (asks.Manifest name reference) (replies.Manifest m) (replies.Blob of bytes) h k n o = absurd k
+one_answer files (asks.Manifest name reference) (replies.Manifest m) (replies.Tags of tags) h k n o = absurd k
+one_answer files (asks.Manifest name reference) (replies.Refused r) (replies.Blob of bytes) h k n o = absurd k
+one_answer files (asks.Manifest name reference) (replies.Refused r) (replies.Tags of tags) h k n o = absurd k
+one_answer files (asks.Blob name digest) (replies.Blob of bytes) (replies.Blob of' bytes') h k n o = one_blob files digest of of' bytes bytes' h.0 k.0 (h.1 refl).stored (k.1 refl).stored
+one_answer files (asks.Blob name digest) (replies.Blob of bytes) (replies.Refused s) h k n o = absurd (found_blob files name digest bytes s (h.1 refl) k (λ e. o (ap replies.Refused e)))
+one_answer files (asks.Blob name digest) (replies.Refused r) (replies.Blob of bytes) h k n o = absurd (found_blob files name digest bytes r (k.1 refl) h (λ e. n (ap replies.Refused e)))
+one_answer files (asks.Blob name digest) (replies.Refused r) (replies.Refused s) h k n o = ap replies.Refused (one_refusal files (asks.Blob name digest) r s h k (λ e. n (ap replies.Refused e)) (λ e. o (ap replies.Refused e)))
+one_answer files (asks.Blob name digest) (replies.Manifest m) s h k n o = absurd h
+one_answer files (asks.Blob name digest) (replies.Tags of tags) s h k n o = absurd h
+one_answer files (asks.Blob name digest) (replies.Blob of bytes) (replies.Manifest m) h k n o = absurd k
+one_answer files (asks.Blob name digest) (replies.Blob of bytes) (replies.Tags of' tags) h k n o = absurd k
+one_answer files (asks.Blob name digest) (replies.Refused r) (replies.Manifest m) h k n o = absurd k
+one_answer files (asks.Blob name digest) (replies.Refused r) (replies.Tags of tags) h k n o = absurd k
+one_answer files (asks.Tags name) (replies.Tags of tags) (replies.Tags of' tags') h k n o = one_listing files name of of' tags tags' h.0 k.0 (h.1 refl) (k.1 refl)
+one_answer files (asks.Tags name) (replies.Tags of tags) (replies.Refused s) h k n o = absurd (found_tags files name tags s (h.1 refl) k (λ e. o (ap replies.Refused e)))
+one_answer files (asks.Tags name) (replies.Refused r) (replies.Tags of tags) h k n o = absurd (found_tags files name tags r (k.1 refl) h (λ e. n (ap replies.Refused e)))
+one_answer files (asks.Tags name) (replies.Refused r) (replies.Refused s) h k n o = ap replies.Refused (one_refusal files (asks.Tags name) r s h k (λ e. n (ap replies.Refused e)) (λ e. o (ap replies.Refused e)))
+one_answer files (asks.Tags name) (replies.Manifest m) s h k n o = absurd h
+one_answer files (asks.Tags name) (replies.Blob of bytes) s h k n o = absurd h
+one_answer files (asks.Tags name) (replies.Tags of tags) (replies.Manifest m) h k n o = absurd k
+one_answer files (asks.Tags name) (replies.Tags of tags) (replies.Blob of' bytes) h k n o = absurd k
+one_answer files (asks.Tags name) (replies.Refused r) (replies.Manifest m) h k n o = absurd k
+one_answer files (asks.Tags name) (replies.Refused r) (replies.Blob of bytes) h k n o = absurd k
+
+-- ---- one reply to an input
+
+-- how an input has a reply
+data Which (files : Files) (input : List ℕ) (r : Reply (List ℕ)) : Type 0 where
+  free : r ≡ replies.Refused NoMemory → Which files input r
+  none : r ≡ replies.Refused NotARequest → Reads input asked.NoRequest → Which files input r
+  some : (ask : Ask) → Reads input (asked.Pull ask) → IsAnswer true files ⊥ ask r → Which files input r
+
+which : (files : Files) (input : List ℕ) (r : Reply (List ℕ)) → IsReply true files ⊥ (Some input) r → Which files input r
+which files input (replies.Manifest m) h = some h.ask h.asked h.answer
+which files input (replies.Blob digest bytes) h = some h.ask h.asked h.answer
+which files input (replies.Tags name tags) h = some h.ask h.asked h.answer
+which files input (replies.Refused NameUnknown) h = some h.ask h.asked h.answer
+which files input (replies.Refused BlobUnknown) h = some h.ask h.asked h.answer
+which files input (replies.Refused ManifestUnknown) h = some h.ask h.asked h.answer
+which files input (replies.Refused NotARequest) h = none refl h
+which files input (replies.Refused StorageFault) h = some h.ask h.asked h.answer
+which files input (replies.Refused NoMemory) h = free refl
+
+same_ask : (files : Files) (input : List ℕ) (a b : Ask) (r s : Reply (List ℕ)) → asked.Pull a ≡ asked.Pull b → IsAnswer true files ⊥ a r → IsAnswer true files ⊥ b s → r ≢ replies.Refused NoMemory → s ≢ replies.Refused NoMemory → r ≡ s
+same_ask files input a b r s e h k n o =
+    let ask : a ≡ b = cc e in
+    one_answer files b r s (subst (λ x. IsAnswer true files ⊥ x r) ask h) k n o
+
+same_which : (files : Files) (input : List ℕ) (r s : Reply (List ℕ)) → Which files input r → Which files input s → r ≢ replies.Refused NoMemory → s ≢ replies.Refused NoMemory → r ≡ s
+same_which files input r s (free e) w n o = absurd (n e)
+same_which files input r s w (free e) n o = absurd (o e)
+same_which files input r s (none e h) (none f k) n o = e ∙ sym f
+same_which files input r s (none e h) (some b k y) n o = absurd (cc (one_reading input asked.NoRequest (asked.Pull b) h k))
+same_which files input r s (some a h x) (none f k) n o = absurd (cc (one_reading input (asked.Pull a) asked.NoRequest h k))
+same_which files input r s (some a h x) (some b k y) n o = same_ask files input a b r s (one_reading input (asked.Pull a) (asked.Pull b) h k) x y n o
+
+pub one_reply : (files : Files) (input : List ℕ) (r s : Reply (List ℕ)) → IsReply true files ⊥ (Some input) r → IsReply true files ⊥ (Some input) s → r ≢ replies.Refused NoMemory → s ≢ replies.Refused NoMemory → r ≡ s
+one_reply files input r s h k n o = same_which files input r s (which files input r h) (which files input s k) n o
+
+silent_which : (files : Files) (input : List ℕ) (status : ℕ) (r : Reply (List ℕ)) → IsSilent (Some input) status → Which files input r → r ≡ replies.Refused NoMemory
+silent_which files input status r silent (free e) = e
+silent_which files input status r (nothing empty is) (none e h) = absurd (cc (one_reading input asked.Nothing asked.NoRequest empty h))
+silent_which files input status r (inside cut is) (none e h) = absurd (cc (one_reading input asked.Cut asked.NoRequest cut h))
+silent_which files input status r (nothing empty is) (some a h x) = absurd (cc (one_reading input asked.Nothing (asked.Pull a) empty h))
+silent_which files input status r (inside cut is) (some a h x) = absurd (cc (one_reading input asked.Cut (asked.Pull a) cut h))
+
+pub no_reply : (files : Files) (input : List ℕ) (status : ℕ) (r : Reply (List ℕ)) → IsSilent (Some input) status → IsReply true files ⊥ (Some input) r → r ≡ replies.Refused NoMemory
+no_reply files input status r silent h = silent_which files input status r silent (which files input r h)

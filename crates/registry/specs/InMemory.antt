@@ -1,18 +1,19 @@
 -- What `once` gives over files and a request in memory.
-use Rattle.std.specs.Prelude.{◌≡◌, ℕ, List, None}
+use Rattle.std.specs.Prelude.{◌≡◌, ℕ, true, List, []}
 use Rattle.depot_api.specs.Files.{Files}
-use Rattle.link_reading.specs.Meaning.{tag_at}
-use Rattle.link_reading.specs.declared.manifests.StoredManifest.{StoredManifest}
+use Rattle.pull_reading.specs.declared.ask.Ask.{Ask}
+use Rattle.pull_reading.specs.Requests.{BeginsWith, IsCut, IsNoRequest}
+use Rattle.registry.specs.declared.reply.Reply.{Reply}
 use Rattle.registry.specs.declared.reply.Reply.TheVariants as replies
-use Rattle.registry.specs.declared.reply.Refusal.TheVariants.{ManifestUnknown, NotARequest, NoMemory}
-use Rattle.registry.specs.Requests.{BeginsWithRequest, BeginsWithNone}
+use Rattle.registry.specs.declared.reply.Refusal.TheVariants.{NotARequest, NoMemory}
+use Rattle.registry.specs.Answers.{IsAnswer}
 use Rattle.registry.specs.Replies.{wire}
-use Rattle.registry.specs.Runs.{PointsTo}
+use Rattle.registry.specs.Runs.{status_of}
 
--- The request asks for a tag that points to a manifest, and that was written; it asks for a tag that means nothing;
--- it is no request; or memory was wanting.
+-- The answer to the request was written; there was none, or not all of one; it is no request; or memory was wanting.
 pub data Answers (files : Files) (request : List ℕ) (status : ℕ) (written : List ℕ) : Type 0 where
-  found : (name tag : List ℕ) (m : StoredManifest) → BeginsWithRequest request name tag → PointsTo files name tag m → written ≡ wire (replies.Manifest m) → status ≡ 0 → Answers files request status written
-  unknown : (name tag : List ℕ) → BeginsWithRequest request name tag → tag_at files name tag ≡ None → written ≡ wire (replies.Refused ManifestUnknown) → status ≡ 0 → Answers files request status written
-  nothing_asked : BeginsWithNone request → written ≡ wire (replies.Refused NotARequest) → status ≡ 10 → Answers files request status written
+  asked : (ask : Ask) (reply : Reply (List ℕ)) → BeginsWith request ask → IsAnswer true files ⊥ ask reply → written ≡ wire reply → status ≡ status_of reply → Answers files request status written
+  nothing : request ≡ [] → written ≡ [] → status ≡ 0 → Answers files request status written
+  inside : IsCut request → written ≡ [] → status ≡ 10 → Answers files request status written
+  no_request : IsNoRequest request → written ≡ wire (replies.Refused NotARequest) → status ≡ 10 → Answers files request status written
   memory_wanting : written ≡ wire (replies.Refused NoMemory) → status ≡ 9 → Answers files request status written

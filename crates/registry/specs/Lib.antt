@@ -1,8 +1,6 @@
-pub mod Requests
 pub mod Replies
+pub mod Answers
+pub mod Sending
 pub mod Runs
 pub mod Words
-pub mod Sending
-pub mod Fronts
-pub mod Parsing
 pub mod InMemory

@@ -4,17 +4,17 @@ ghost use Rattle.depot_api.specs.Files.{Files};
 ghost use Rattle.registry.specs.declared.reply.Reply.{Reply};
 ghost use Rattle.registry.specs.declared.reply.Reply.TheVariants as replies;
 ghost use Rattle.registry.specs.declared.reply.Refusal.TheVariants as refusals;
-ghost use Rattle.registry.specs.Requests.{BeginsWithRequest};
-ghost use Rattle.registry.specs.Runs.{IsReply};
-
-/// An input asks for one tag of one repository at most.
-pub fn an_input_has_one_reading()
-    ensures { (input n t m u : List ℕ) → BeginsWithRequest input n t → BeginsWithRequest input m u → (n ≡ m) × (t ≡ u) }
-{}
+ghost use Rattle.registry.specs.Runs.{IsReply, IsSilent};
 
 /// Over a depot that tells its files and did not fail, an input has one reply, but for want of memory.
 pub fn an_input_has_one_reply()
-    ensures { (files : Files) (input : List ℕ) (r s : Reply)
+    ensures { (files : Files) (input : List ℕ) (r s : Reply (List ℕ))
         → IsReply true files ⊥ (Some input) r → IsReply true files ⊥ (Some input) s
         → r ≢ replies.Refused refusals.NoMemory → s ≢ replies.Refused refusals.NoMemory → r ≡ s }
+{}
+
+/// An input that is empty or ends inside a request has none, but for want of memory.
+pub fn a_cut_input_has_no_reply()
+    ensures { (files : Files) (input : List ℕ) (status : ℕ) (r : Reply (List ℕ))
+        → IsSilent (Some input) status → IsReply true files ⊥ (Some input) r → r ≡ replies.Refused refusals.NoMemory }
 {}

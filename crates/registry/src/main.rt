@@ -4,12 +4,13 @@
 //! Requests and replies are HTTP/1.1 (RFC 9112) in the profile of the OCI Distribution Specification 1.1.
 #![tactic(auto)]
 
+mod answers;
+mod delivery;
 mod devices;
 mod in_memory;
 mod laws;
 mod program;
 mod reply;
-mod request;
 mod run;
 mod sending;
 #[cfg(test)]

@@ -1,23 +1,29 @@
 //! Replies and their bytes.
-ghost use Rattle.std.specs.Prelude.{◌≡◌, IfOk};
+ghost use Rattle.std.specs.Prelude.{◌≡◌, ◌++◌, IfOk};
+ghost use Rattle.std.specs.String.{string_bytes};
 ghost use Rattle.registry.specs.declared.reply.Reply.TheVariants as replies;
 ghost use Rattle.registry.specs.Runs.{status_of};
-ghost use Rattle.registry.specs.Replies.{refusal_wire, manifest_head as manifest_head_of};
+ghost use Rattle.registry.specs.Replies.{wire, refusal_wire, quoted, comma_behind, content_head as content_head_of, manifest_head as manifest_head_of, blob_head as blob_head_of, tags_body as tags_body_of};
 
 use link_reading::StoredManifest;
-use reg_names::{NoMemory, Text};
+use reg_entries::Tags;
+use reg_names::{Digest, Name, NoMemory, Text};
 use std::alloc::Global;
 
-/// What a request is answered.
-#[derive(Debug, Drop)]
-pub enum Reply {
+/// What a request is answered. A blob is still to be read.
+pub enum Reply<B> {
     Manifest(StoredManifest),
+    Blob(Digest, B),
+    /// The name of a repository, and all its tags.
+    Tags(Name, Tags),
     Refused(Refusal),
 }
 
 /// Why a request is refused (OCI Distribution Specification 1.1, "Error Codes").
 #[derive(Clone, Copy, Debug, PartialEq, Eq)]
 pub enum Refusal {
+    NameUnknown,
+    BlobUnknown,
     ManifestUnknown,
     NotARequest,
     StorageFault,
@@ -30,6 +36,12 @@ impl Refusal {
         ensures { result.now ≡ refusal_wire self }
     {
         match self {
+            Refusal::NameUnknown => {
+                "HTTP/1.1 404 Not Found\r\nDocker-Distribution-Api-Version: registry/2.0\r\nContent-Type: application/json\r\nContent-Length: 81\r\nConnection: close\r\n\r\n{\"errors\":[{\"code\":\"NAME_UNKNOWN\",\"detail\":null,\"message\":\"repository unknown\"}]}"
+            }
+            Refusal::BlobUnknown => {
+                "HTTP/1.1 404 Not Found\r\nDocker-Distribution-Api-Version: registry/2.0\r\nContent-Type: application/json\r\nContent-Length: 75\r\nConnection: close\r\n\r\n{\"errors\":[{\"code\":\"BLOB_UNKNOWN\",\"detail\":null,\"message\":\"blob unknown\"}]}"
+            }
             Refusal::ManifestUnknown => {
                 "HTTP/1.1 404 Not Found\r\nDocker-Distribution-Api-Version: registry/2.0\r\nContent-Type: application/json\r\nContent-Length: 83\r\nConnection: close\r\n\r\n{\"errors\":[{\"code\":\"MANIFEST_UNKNOWN\",\"detail\":null,\"message\":\"manifest unknown\"}]}"
             }
@@ -50,7 +62,10 @@ impl Refusal {
         ensures { result ≡ status_of (replies.Refused self) }
     {
         match self {
-            Refusal::ManifestUnknown | Refusal::StorageFault => 0,
+            Refusal::NameUnknown
+            | Refusal::BlobUnknown
+            | Refusal::ManifestUnknown
+            | Refusal::StorageFault => 0,
             Refusal::NotARequest => 10,
             Refusal::NoMemory => 9,
         }
@@ -61,11 +76,67 @@ impl Refusal {
 pub fn manifest_head(alloc: Global, manifest: &StoredManifest) -> Result<Text, NoMemory>
     ensures { IfOk result (λ head. head ≡ manifest_head_of manifest.now) }
 {
-    let kind = manifest.kind.media_type();
-    let length = manifest.bytes.len();
-    let digest = manifest.digest.text(alloc)?;
+    let kind = manifest.doc.kind.media_type();
+    content_head(alloc, kind, manifest.bytes.len() as u64, &manifest.digest)
+}
+
+/// The head of the reply with a blob of so many bytes: all of the reply but these.
+pub fn blob_head(alloc: Global, digest: &Digest, size: u64) -> Result<Text, NoMemory>
+    ensures { IfOk result (λ head. head ≡ blob_head_of digest.now size) }
+{
+    content_head(alloc, "application/octet-stream", size, digest)
+}
+
+// The head of a reply with content: its media type, its size and its digest.
+fn content_head(
+    alloc: Global,
+    media_type: &str,
+    size: u64,
+    digest: &Digest,
+) -> Result<Text, NoMemory>
+    ensures { IfOk result (λ head. head ≡ content_head_of media_type.now size digest.now) }
+{
+    let digest = digest.text(alloc)?;
     let digest = digest.as_str();
     Ok(Text::from_string(format!(in alloc;
-        "HTTP/1.1 200 OK\r\nDocker-Distribution-Api-Version: registry/2.0\r\nContent-Type: {kind}\r\nContent-Length: {length}\r\nDocker-Content-Digest: {digest}\r\nConnection: close\r\n\r\n"
+        "HTTP/1.1 200 OK\r\nDocker-Distribution-Api-Version: registry/2.0\r\nContent-Type: {media_type}\r\nContent-Length: {size}\r\nDocker-Content-Digest: {digest}\r\nConnection: close\r\n\r\n"
     )?))
+}
+
+/// The reply with the tags of a repository (OCI Distribution Specification 1.1, "Listing Tags").
+pub fn tags_reply(alloc: Global, name: &Name, tags: &Tags) -> Result<Text, NoMemory>
+    ensures { IfOk result (λ reply. reply ≡ wire (replies.Tags name.now tags.now)) }
+{
+    let body = tags_body(alloc, name, tags)?;
+    let (length, body) = (body.len(), body.as_str());
+    Ok(Text::from_string(format!(in alloc;
+        "HTTP/1.1 200 OK\r\nDocker-Distribution-Api-Version: registry/2.0\r\nContent-Type: application/json\r\nContent-Length: {length}\r\nConnection: close\r\n\r\n{body}"
+    )?))
+}
+
+// The tags as JSON.
+fn tags_body(alloc: Global, name: &Name, tags: &Tags) -> Result<String, NoMemory>
+    ensures { IfOk result (λ body. string_bytes body ≡ tags_body_of name.now tags.now) }
+{
+    let name = name.as_str();
+    let mut body = format!(in alloc; "{{\"name\":\"{name}\",\"tags\":[")?;
+    let mut is_first = true;
+    for tag in tags.as_slice() {
+        push_quoted(&mut body, is_first, tag.as_str())?;
+        is_first = false;
+    }
+    body.push_str("]}")?;
+    Ok(body)
+}
+
+// Puts a JSON string behind a text, and a comma between them where it is not the first.
+fn push_quoted(body: &mut String, is_first: bool, text: &str) -> Result<(), NoMemory>
+    ensures { IfOk result (λ _. string_bytes body.new ≡ string_bytes body.old ++ (comma_behind is_first ++ quoted text.now)) }
+{
+    if !is_first {
+        body.push_str(",")?;
+    }
+    body.push_str("\"")?;
+    body.push_str(text)?;
+    Ok(body.push_str("\"")?)
 }

@@ -1,25 +1,26 @@
 //! The top call.
-ghost use Rattle.std.specs.Prelude.{◌≡◌, ◌≢◌, ◌≤◌, ◌↔◌, map, IfOk, IsErr, MatchResult};
+ghost use Rattle.std.specs.Prelude.{◌≡◌, ◌≢◌, ◌≤◌, ◌↔◌, map};
 ghost use Rattle.std.specs.String.{string_bytes};
-ghost use Rattle.reg_names.specs.Cause.{Rose, HasCause};
+ghost use Rattle.reg_names.specs.Cause.{Rose};
+ghost use Rattle.registry.specs.Answers.{IsAnswer};
 ghost use Rattle.registry.specs.Words.{AreWords, usage};
-ghost use Rattle.registry.specs.Runs.{IsReply, Ends, Delivers, Writes};
-ghost use Rattle.registry.specs.declared.reply.Reply.TheVariants as replies;
+ghost use Rattle.registry.specs.Runs.{IsReply, IsSilent, IsNever, Ends, DeliversBlob, Writes};
 
-use crate::reply::{Refusal, Reply, manifest_head};
-use crate::request::{self, Asked};
-use crate::sending::{write_all, write_both};
+use crate::answers::answer;
+use crate::delivery::{deliver_blob, deliver_manifest, deliver_tags, refuse};
+use crate::reply::{Refusal, Reply};
+use crate::sending::write_all;
 use crate::words::{USAGE, are_accepted};
-use depot_api::{Clock, Depot, Ids, Sink, SinkFault, Source, SourceFault};
-use link_reading::manifest_by_tag;
-use reg_names::Refused;
+use depot_api::{Clock, Depot, Ids, Sink, Source};
+use pull_reading::{self, Ask, Asked, Unread};
+use reg_names::Digest;
 use std::alloc::Global;
 
 /// How a run ended, and the devices that it was given.
 #[derive(Drop)]
 pub struct Ran<D, K> {
-    /// 0: a reply was written. 2: the words were refused. 5: the source or the sink failed. 9: memory was wanting.
-    /// 10: the input began with no request.
+    /// 0: a reply was written, or the input was empty. 2: the words were refused. 5: the source or the sink failed,
+    /// or the depot inside a blob. 9: memory was wanting. 10: the input began with no request, or ended inside one.
     pub status: u8,
     pub depot: D,
     pub keeper: K,
@@ -43,7 +44,8 @@ pub fn run_plain<D: Depot, K, C: Clock, I: Ids, S: Source, O: Sink>(
     // What was written, and the status.
     ensures once { AreWords (map string_bytes words.now)
         → Ends (IsReply (D.tells depot) (D.files depot) (Rose (D.faults depot) (D.faults result.depot)) (S.left input.old))
-        (Rose (S.faults input.old) (S.faults input.new)) (Rose (O.faults out.old) (O.faults out.new))
+        (IsSilent (S.left input.old))
+        (Rose (S.faults input.old) (S.faults input.new)) (Rose (D.faults depot) (D.faults result.depot)) (Rose (O.faults out.old) (O.faults out.new))
         (O.taken out.old) (O.taken out.new) result.status }
     // The devices come back as they were, and no count falls.
     ensures files { D.files result.depot ≡ D.files depot }
@@ -79,7 +81,8 @@ fn once<D: Depot, S: Source, O: Sink>(
     out: &mut O,
 ) -> u8
     ensures ends { Ends (IsReply (D.tells depot.old) (D.files depot.old) (Rose (D.faults depot.old) (D.faults depot.new)) (S.left input.old))
-        (Rose (S.faults input.old) (S.faults input.new)) (Rose (O.faults out.old) (O.faults out.new))
+        (IsSilent (S.left input.old))
+        (Rose (S.faults input.old) (S.faults input.new)) (Rose (D.faults depot.old) (D.faults depot.new)) (Rose (O.faults out.old) (O.faults out.new))
         (O.taken out.old) (O.taken out.new) result }
     ensures status { result ≢ 2 }
     ensures files { D.files depot.new ≡ D.files depot.old }
@@ -88,67 +91,50 @@ fn once<D: Depot, S: Source, O: Sink>(
     ensures input_faults { S.faults input.old ≤ S.faults input.new }
     ensures out_faults { O.faults out.old ≤ O.faults out.new }
 {
-    match answer(alloc, depot, input) {
-        Ok(reply) => deliver(alloc, out, &reply),
-        Err(SourceFault) => 5,
+    match pull_reading::read(alloc, input) {
+        Ok(Asked::Pull(ask)) => serve(alloc, depot, out, &ask),
+        Ok(Asked::Nothing) => 0,
+        Ok(Asked::Cut) => 10,
+        Ok(Asked::NoRequest) => refuse(out, Refusal::NotARequest),
+        Err(Unread::SourceFault) => 5,
+        Err(Unread::NoMemory) => refuse(out, Refusal::NoMemory),
     }
 }
 
-// The reply to the request at the front of the input.
-fn answer<D: Depot, S: Source>(
-    alloc: Global,
-    depot: &mut D,
-    input: &mut S,
-) -> Result<Reply, SourceFault>
-    ensures reply { IfOk result (IsReply (D.tells depot.old) (D.files depot.old) (Rose (D.faults depot.old) (D.faults depot.new)) (S.left input.old)) }
+// Answers an ask, and tells the status.
+fn serve<D: Depot, O: Sink>(alloc: Global, depot: &mut D, out: &mut O, ask: &Ask) -> u8
+    ensures ends { Ends (IsAnswer (D.tells depot.old) (D.files depot.old) (Rose (D.faults depot.old) (D.faults depot.new)) ask.now)
+        IsNever ⊥ (Rose (D.faults depot.old) (D.faults depot.new)) (Rose (O.faults out.old) (O.faults out.new))
+        (O.taken out.old) (O.taken out.new) result }
     ensures files { D.files depot.new ≡ D.files depot.old }
     ensures tells { D.tells depot.new ≡ D.tells depot.old }
-    ensures faults { D.faults depot.old ≤ D.faults depot.new }
-    ensures cause { HasCause (S.faults input.old) (S.faults input.new) (IsErr result) }
+    ensures depot_faults { D.faults depot.old ≤ D.faults depot.new }
+    ensures out_faults { O.faults out.old ≤ O.faults out.new }
 {
-    Ok(match request::read(alloc, input)? {
-        Asked::Pull(request) => match manifest_by_tag(alloc, depot, &request.name, &request.tag) {
-            Ok(Some(manifest)) => Reply::Manifest(manifest),
-            Ok(None) => Reply::Refused(Refusal::ManifestUnknown),
-            Err(Refused::Failed) => Reply::Refused(Refusal::StorageFault),
-            Err(Refused::NoMemory) => Reply::Refused(Refusal::NoMemory),
-        },
-        Asked::Nothing => Reply::Refused(Refusal::NotARequest),
-        Asked::NoMemory => Reply::Refused(Refusal::NoMemory),
-    })
-}
-
-// Writes a reply, or the refusal for want of memory in its place, and tells the status.
-fn deliver<O: Sink>(alloc: Global, out: &mut O, reply: &Reply) -> u8
-    ensures ends { Delivers reply.now (Rose (O.faults out.old) (O.faults out.new)) (O.taken out.old) (O.taken out.new) result }
-    ensures faults { O.faults out.old ≤ O.faults out.new }
-{
-    match reply {
-        Reply::Manifest(manifest) => match manifest_head(alloc, manifest) {
-            Ok(head) => status_after(
-                write_both(out, head.as_bytes(), manifest.bytes.as_slice()),
-                0,
-            ),
-            Err(_) => refuse(out, Refusal::NoMemory),
-        },
-        Reply::Refused(refusal) => refuse(out, *refusal),
+    match answer(alloc, depot, ask) {
+        Reply::Manifest(manifest) => deliver_manifest(alloc, out, &manifest),
+        Reply::Blob(digest, blob) => serve_blob(alloc, depot, out, &digest, blob),
+        Reply::Tags(name, tags) => deliver_tags(alloc, out, &name, &tags),
+        Reply::Refused(refusal) => refuse(out, refusal),
     }
 }
 
-// Writes a refusal, and tells the status.
-fn refuse<O: Sink>(out: &mut O, refusal: Refusal) -> u8
-    ensures ends { Delivers (replies.Refused refusal) (Rose (O.faults out.old) (O.faults out.new)) (O.taken out.old) (O.taken out.new) result }
-    ensures faults { O.faults out.old ≤ O.faults out.new }
+// Delivers a blob, gives it back to its depot, and tells the status.
+fn serve_blob<D: Depot, O: Sink>(
+    alloc: Global,
+    depot: &mut D,
+    out: &mut O,
+    digest: &Digest,
+    mut blob: D::B,
+) -> u8
+    requires { D.B.faults blob ≡ 0 }
+    ensures ends { DeliversBlob D.B.tells D.B.left D.B.bytes digest.now blob (Rose (D.faults depot.old) (D.faults depot.new)) (Rose (O.faults out.old) (O.faults out.new)) (O.taken out.old) (O.taken out.new) result }
+    ensures files { D.files depot.new ≡ D.files depot.old }
+    ensures tells { D.tells depot.new ≡ D.tells depot.old }
+    ensures depot_faults { D.faults depot.old ≤ D.faults depot.new }
+    ensures out_faults { O.faults out.old ≤ O.faults out.new }
 {
-    status_after(write_all(out, refusal.wire().as_bytes()), refusal.status())
-}
-
-// The status of a run whose reply was written, or not.
-fn status_after(written: Result<(), SinkFault>, status: u8) -> u8
-    ensures { MatchResult written (λ _. result ≡ status) (λ _. result ≡ 5) }
-{
-    match written {
-        Ok(()) => status,
-        Err(SinkFault) => 5,
-    }
+    let status = deliver_blob(alloc, out, digest, &mut blob);
+    depot.done(blob);
+    status
 }

@@ -1,4 +1,4 @@
-use Rattle.std.proofs.Common.{arith, refl}
+use Rattle.std.proofs.Common.{arith}
 use Rattle.registry.proofs.InMemoryLaws.{still, Answers-run}
 use Rattle.registry.proofs.in_memory.run_over.Goals as goal
 

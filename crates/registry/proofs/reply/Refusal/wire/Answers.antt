@@ -17,3 +17,11 @@ returns-in-StorageFault c = rw c.in-StorageFault.is refl
 pub returns-in-NoMemory : goal.returns-in-NoMemory
 unfolding digits
 returns-in-NoMemory c = rw c.in-NoMemory.is refl
+
+pub returns-in-NameUnknown : goal.returns-in-NameUnknown
+unfolding digits
+returns-in-NameUnknown c = rw c.in-NameUnknown.is refl
+
+pub returns-in-BlobUnknown : goal.returns-in-BlobUnknown
+unfolding digits
+returns-in-BlobUnknown c = rw c.in-BlobUnknown.is refl
