@@ -29,7 +29,7 @@ gap_open_at_cr bytes is =
 
 -- ---- the size line
 
-line_is_some : (line : ChunkLine) → 2 ≤ length (print_chunk_line line)
+pub line_is_some : (line : ChunkLine) → 2 ≤ length (print_chunk_line line)
 unfolding print_chunk_line
 line_is_some line = simp length-append (omega arith)
 

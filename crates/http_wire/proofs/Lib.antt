@@ -11,5 +11,9 @@ pub mod TakingLaws
 pub mod MovingLaws
 pub mod GrammarFacts
 pub mod MessageLaws
+pub mod DecidingLaws
+pub mod PartLaws
+pub mod FrontLaws
+pub mod EndingLaws
 pub mod FillingLaws
 pub mod StagingLaws

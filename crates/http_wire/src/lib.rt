@@ -1,6 +1,6 @@
 //! HTTP/1.1 requests, read from a stream of bytes exactly, however the stream is cut.
 //! `read_head` reads a head, `framing` says where its body ends, `read_body` reads the decoded body, and `take_body` stages it.
-//! Each answer is proved to be what the bytes are, and no two answers fit one stream: a stream has one list of messages.
+//! Each answer is proved to be what the bytes are, and no two answers fit one stream: each stream has one list of messages.
 //! A session reads its requests with these calls, over any source of bytes. Nothing but a head and a stage takes memory.
 //! The rules are those of RFC 9112, sections 2 to 7, and of RFC 9110 for the fields.
 #![tactic(auto)]
@@ -26,7 +26,7 @@ pub use depot_api::{Bytes, NoMemory, Source, SourceFault, Stage, Text};
 pub use feed::Feed;
 pub use framed::framing;
 pub use head::{Field, Framing, Head, Heading, MALFORMED, TOO_LARGE};
-pub use messages::{messages_are_one, messages_go_on, spellings_are_apart};
+pub use messages::{messages_are_one, messages_go_on, spellings_are_apart, streams_have_messages};
 pub use questions::{content_type, ends_connection, expects_continue, range_start};
 pub use reading::{heads_are_exact, read_head};
 pub use reading_body::{bodies_are_exact, read_body};

@@ -17,3 +17,8 @@ pub fn messages_go_on()
 pub fn spellings_are_apart()
     ensures { (bytes more : List ℕ) (one other : Message) → ReadsMessage bytes one [] → ReadsMessage (bytes ++ more) other [] → more ≡ [] }
 {}
+
+/// A law: every stream has a list of messages, and an end of it; by `messages_are_one` it has no other.
+pub fn streams_have_messages()
+    ensures { (bytes : List ℕ) → (messages : List Message) × (ending : Ending) × Messages bytes messages ending }
+{}
