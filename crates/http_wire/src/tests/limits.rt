@@ -1,6 +1,6 @@
 //! Streams just inside and outside each limit, which are too long to write down.
-use crate::tests::streams::{CHUNKED_HEAD, Row, made, reads};
-use crate::tests::whole::{Coming, Ending};
+use crate::tests::streams::{CHUNKED_HEAD, made, reads_however_cut};
+use crate::tests::whole::Ending;
 use std::alloc::Global;
 use std::test::Fail;
 
@@ -176,21 +176,7 @@ fn reads_long_rows(alloc: Global, front: &str, rows: &[LongRow]) -> Result<(), F
     for (start, unit, count, back, text, ending) in rows {
         let front = made(alloc, front.as_bytes(), start, 1, b"")?;
         let stream = made(alloc, &front, unit, *count, back.as_bytes())?;
-        reads_long(alloc, (&stream, text, *ending))?;
-    }
-    Ok(())
-}
-
-// Of a long stream the last bytes come one by one, and it is cut at some places.
-fn reads_long(alloc: Global, row: Row) -> Result<(), Fail> {
-    reads(alloc, row, Coming::Whole)?;
-    reads(
-        alloc,
-        row,
-        Coming::ByteByByteFrom(row.0.len().saturating_sub(200)),
-    )?;
-    for at in (1..row.0.len()).step_by(1 + row.0.len() / 100) {
-        reads(alloc, row, Coming::InTwo(at))?;
+        reads_however_cut(alloc, (&stream, text, *ending))?;
     }
     Ok(())
 }

@@ -272,7 +272,7 @@ pub(super) fn made(
     Ok(bytes)
 }
 
-fn reads_however_cut(alloc: Global, row: Row) -> Result<(), Fail> {
+pub(super) fn reads_however_cut(alloc: Global, row: Row) -> Result<(), Fail> {
     reads(alloc, row, Coming::Whole)?;
     reads(alloc, row, Coming::ByteByByte)?;
     for at in 1..row.0.len() {
@@ -289,7 +289,7 @@ fn reads_with_faults(alloc: Global, row: Row) -> Result<(), Fail> {
 }
 
 /// Whether a stream that comes so is read as it has to be.
-pub(super) fn reads(alloc: Global, row: Row, coming: Coming) -> Result<(), Fail> {
+fn reads(alloc: Global, row: Row, coming: Coming) -> Result<(), Fail> {
     let (stream, text, ending) = row;
     let reading = read_stream(alloc, stream, coming)?;
     if reading.is(text, ending) {

@@ -13,8 +13,6 @@ pub(super) enum Coming {
     /// Cut in two at this place.
     InTwo(usize),
     ByteByByte,
-    /// So many bytes at once, and then byte by byte.
-    ByteByByteFrom(usize),
     /// Byte by byte, and the read of this number fails.
     WithFault(u64),
 }
@@ -162,18 +160,9 @@ fn pieces_of(alloc: Global, coming: Coming, bytes: &[u8]) -> Result<Vec<usize>, 
         Coming::Whole => Ok(Vec::new(alloc)),
         Coming::InTwo(at) => vec![in alloc; at; 1],
         Coming::ByteByByte => vec![in alloc; 1; bytes.len()],
-        Coming::ByteByByteFrom(at) => pieces_from(alloc, at, bytes),
         // The read that fails has a number too.
         Coming::WithFault(_) => vec![in alloc; 1; bytes.len() + 1],
     }
-}
-
-fn pieces_from(alloc: Global, at: usize, bytes: &[u8]) -> Result<Vec<usize>, AllocError> {
-    let mut pieces = vec![in alloc; 1; bytes.len()]?;
-    if let Some(first) = pieces.first_mut() {
-        *first = at;
-    }
-    Ok(pieces)
 }
 
 fn faults_of(alloc: Global, coming: Coming) -> Result<Vec<u64>, AllocError> {
