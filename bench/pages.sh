@@ -2,13 +2,11 @@
 # Walks by pages of 64 through 1,000, 10,000 and 100,000 files: the data files of blobs, and the tags of one
 # repository. Prints the time of a file, and the ratio to `find`, each the best of five walks.
 # The folders are made below a temporary directory and are removed at the end. Build the program first: `rt run` in crates/page_walk.
-set -eu
 cd "$(dirname "$0")/.."
+. bench/timing.sh
 program=${1:?"the built program page_walk"}
-depots=$(mktemp -d)
-trap 'rm -rf "$depots"' EXIT
 
-python3 - "$depots" <<'PYTHON'
+python3 - "$work" <<'PYTHON'
 import hashlib, os, sys
 for count in (1_000, 10_000, 100_000):
     blobs = f"{sys.argv[1]}/blobs-{count}/docker/registry/v2/blobs/sha256"
@@ -20,22 +18,12 @@ for count in (1_000, 10_000, 100_000):
             open(f"{folder}/{name}", "w").close()
 PYTHON
 
-# The best of five runs, in microseconds.
-best() {
-    for _ in 1 2 3 4 5; do
-        local start=$EPOCHREALTIME
-        "$@" > /dev/null
-        local end=$EPOCHREALTIME
-        echo $(( ${end/./} - ${start/./} ))
-    done | sort -n | head -1
-}
-
 for kind in blobs tags; do
     for count in 1000 10000 100000; do
-        depot=$depots/$kind-$count
+        depot=$work/$kind-$count
         [ "$("$program" "$depot" docker 64)" = "$count" ]
-        walk=$(best "$program" "$depot" docker 64)
-        found=$(best find "$depot/docker" -type f)
+        walk=$(best_time "$program" "$depot" docker 64)
+        found=$(best_time find "$depot/docker" -type f)
         awk -v kind=$kind -v n=$count -v w="$walk" -v f="$found" \
             'BEGIN { printf "%-5s %6d files: %5.1f us a file, %4.1f times find\n", kind, n, w / n, w / f }'
     done

@@ -2,11 +2,9 @@
 # Pulls through `once`: a blob of 200 MB, as a ratio to `cat` and with the memory it takes; a manifest by tag from a
 # repository of 10 and of 10,000 tags; the lists of 1,000 and of 10,000 tags. Each time is the best of five runs.
 # The folders are made below a temporary directory and are removed at the end. Build the program first: `make demo`.
-set -eu
 cd "$(dirname "$0")/.."
+. bench/timing.sh
 program=$(realpath "${1:?"the built program registry"}")
-work=$(mktemp -d)
-trap 'rm -rf "$work"' EXIT
 
 python3 - "$work" <<'PYTHON'
 import hashlib, os, shutil, sys
@@ -39,21 +37,12 @@ ask("pull-tag", "manifests/v1")
 ask("list-tags", "tags/list")
 PYTHON
 
-# The best of five runs of a command on an input, in microseconds.
-best() {
-    local input=$1
-    shift
-    for _ in 1 2 3 4 5; do
-        local start=$EPOCHREALTIME
-        "$@" < "$input" | cat > /dev/null
-        local end=$EPOCHREALTIME
-        echo $(( ${end/./} - ${start/./} ))
-    done | sort -n | head -1
-}
+# Answers a request from a depot, each a name in the temporary folder.
+once() { "$program" once --root "$work/$1" < "$work/$2"; }
 
-[ "$("$program" once --root "$work/blob" < "$work/pull-blob" | wc -c)" -gt 209715200 ]
-sent=$(best "$work/pull-blob" "$program" once --root "$work/blob")
-copied=$(best "$work/bytes" cat)
+[ "$(once blob pull-blob | wc -c)" -gt 209715200 ]
+sent=$(best_time once blob pull-blob)
+copied=$(best_time cat "$work/bytes")
 # The most memory that it has taken when nearly all is sent: the reader waits there.
 "$program" once --root "$work/blob" < "$work/pull-blob" > >(head -c 209000000 > /dev/null; sleep 2; cat > /dev/null) &
 sleep 1
@@ -62,12 +51,12 @@ wait $!
 awk -v s="$sent" -v c="$copied" -v m="$memory" \
     'BEGIN { printf "blob of 200 MB: %.0f ms, %.2f times cat, %.1f MB of memory\n", s / 1000, s / c, m / 1024 }'
 
-few=$(best "$work/pull-tag" "$program" once --root "$work/tags-10")
-many=$(best "$work/pull-tag" "$program" once --root "$work/tags-10000")
+few=$(best_time once tags-10 pull-tag)
+many=$(best_time once tags-10000 pull-tag)
 awk -v f="$few" -v m="$many" \
     'BEGIN { printf "manifest by tag: %.2f ms among 10 tags, %.2f ms among 10,000, %.2f times\n", f / 1000, m / 1000, m / f }'
 
-short=$(best "$work/list-tags" "$program" once --root "$work/tags-1000")
-long=$(best "$work/list-tags" "$program" once --root "$work/tags-10000")
+short=$(best_time once tags-1000 list-tags)
+long=$(best_time once tags-10000 list-tags)
 awk -v s="$short" -v l="$long" \
     'BEGIN { printf "tags: %.1f us a tag of 1,000, %.1f us a tag of 10,000, %.2f times\n", s / 1000, l / 10000, l / s / 10 }'

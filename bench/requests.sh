@@ -3,13 +3,11 @@
 # that of copying its bytes; and for each body, read into a room and put into a stage, the speed, and the ratio to the time
 # of copying its stream. All are processor times, the least of nine runs, without that of getting the input.
 # The streams are made below a temporary directory and are removed at the end. Build the program first: `rt run` in crates/wire_speed.
-set -eu
 cd "$(dirname "$0")/.."
+. bench/timing.sh
 program=${1:?"the built program wire_speed"}
-streams=$(mktemp -d)
-trap 'rm -rf "$streams"' EXIT
 
-python3 - "$streams" <<'PYTHON'
+python3 - "$work" <<'PYTHON'
 import sys
 def write(name, *parts):
     with open(f"{sys.argv[1]}/{name}", "wb") as stream:
@@ -30,8 +28,8 @@ PYTHON
 best() {
     local TIMEFORMAT='%U %S'
     for _ in 1 2 3 4 5 6 7 8 9; do
-        { time "$program" "$1" < "$streams/$2" > /dev/null; } 2>&1
-    done | awk '{ printf "%d\n", ($1 + $2) * 1e6 }' | sort -n | head -1
+        { time "$program" "$1" < "$work/$2" > /dev/null; } 2>&1
+    done | awk '{ printf "%d\n", ($1 + $2) * 1e6 }' | least
 }
 
 # The same, without getting the input.
@@ -39,7 +37,7 @@ beside_input() {
     echo $(( $(best "$1" "$2") - $(best input "$2") ))
 }
 
-[ "$("$program" read < "$streams/heads")" = "200000 requests, 0 bytes" ]
+[ "$("$program" read < "$work/heads")" = "200000 requests, 0 bytes" ]
 read=$(beside_input read heads)
 copy=$(beside_input copy heads)
 awk -v r="$read" -v c="$copy" 'BEGIN { printf "a head of 300 bytes: %.2f us beside %.2f us to copy it\n", (r - c) / 200000, c / 200000 }'
