@@ -26,6 +26,15 @@ const ROOM: usize = 16_384;
 // The most bytes of one body that is staged.
 const MOST: u64 = 1 << 62;
 
+/// What becomes of a body.
+#[derive(Clone, Copy, Debug)]
+enum Way {
+    /// It is read into a room.
+    Read,
+    /// It is put into a stage.
+    Stage,
+}
+
 fn main(rt: HostRuntime) -> ExitCode {
     match counted(&rt) {
         Some((requests, bytes)) => match println!(rt; "{requests} requests, {bytes} bytes") {
@@ -44,8 +53,8 @@ fn counted(rt: &HostRuntime) -> Option<(u64, u64)> {
     match way.as_str() {
         "input" => Some((0, 0)),
         "copy" => copied(&mut source, &mut room),
-        "read" => read_all(rt.alloc(), &mut source, false, &mut room),
-        "stage" => read_all(rt.alloc(), &mut source, true, &mut room),
+        "read" => read_all(rt.alloc(), &mut source, Way::Read, &mut room),
+        "stage" => read_all(rt.alloc(), &mut source, Way::Stage, &mut room),
         _ => None,
     }
 }
@@ -53,11 +62,11 @@ fn counted(rt: &HostRuntime) -> Option<(u64, u64)> {
 fn read_all(
     alloc: Global,
     source: &mut MemSource,
-    staged: bool,
+    way: Way,
     room: &mut [u8],
 ) -> Option<(u64, u64)> {
     let mut feed = Feed::new(alloc).ok()?;
-    requests(alloc, &mut feed, source, staged, room)
+    requests(alloc, &mut feed, source, way, room)
 }
 
 // Standard input, read to its end.
@@ -87,7 +96,7 @@ fn requests<S: Source>(
     alloc: Global,
     feed: &mut Feed,
     source: &mut S,
-    staged: bool,
+    way: Way,
     room: &mut [u8],
 ) -> Option<(u64, u64)>
     ensures messages { IfSome result (λ counted. OnStream (stream feed.old (S.left source.old)) (stream feed.new (S.left source.new)) (λ old new. IsCounted counted old)) }
@@ -95,7 +104,7 @@ fn requests<S: Source>(
     let mut requests = 0_u64;
     let mut bytes = 0_u64;
     for _ in 0..u64::MAX {
-        match read_next(alloc, feed, source, staged, room)? {
+        match read_next(alloc, feed, source, way, room)? {
             Next::Request(count, last) => {
                 requests = requests.checked_add(1)?;
                 bytes = bytes.checked_add(count)?;
@@ -121,14 +130,14 @@ fn read_next<S: Source>(
     alloc: Global,
     feed: &mut Feed,
     source: &mut S,
-    staged: bool,
+    way: Way,
     room: &mut [u8],
 ) -> Option<Next>
     ensures next { IfSome result (λ next. OnStream (stream feed.old (S.left source.old)) (stream feed.new (S.left source.new)) (IsNext next)) }
 {
     match read_head(alloc, feed, source) {
         Heading::Head(head) => {
-            let count = body_length(alloc, feed, source, framing(&head), staged, room)?;
+            let count = body_length(alloc, feed, source, framing(&head), way, room)?;
             Some(Next::Request(count, ends_connection(&head)))
         }
         Heading::End => Some(Next::End),
@@ -141,15 +150,14 @@ fn body_length<S: Source>(
     feed: &mut Feed,
     source: &mut S,
     framing: Framing,
-    staged: bool,
+    way: Way,
     room: &mut [u8],
 ) -> Option<u64>
     ensures body { IfSome result (λ n. OnStream (stream feed.old (S.left source.old)) (stream feed.new (S.left source.new)) (HasLength framing n)) }
 {
-    if staged {
-        body_staged(alloc, feed, source, framing)
-    } else {
-        body_read(feed, source, framing, room)
+    match way {
+        Way::Read => body_read(feed, source, framing, room),
+        Way::Stage => body_staged(alloc, feed, source, framing),
     }
 }
 
