@@ -31,7 +31,7 @@ impl Model for Digest {
 }
 
 impl Digest {
-    /// The SHA-256 digest with these bytes.
+    /// The SHA-256 digest with these bytes. It takes no memory.
     pub fn from_sha256(raw: [u8; 32]) -> Digest
         ensures { result ≡ 1 ∷ raw }
     {
@@ -46,7 +46,8 @@ impl Digest {
         &self.raw
     }
 
-    /// The digest whose text this is, and `None` exactly where it is no digest's.
+    /// The digest whose text this is, and `None` exactly where it is no digest's: one in capitals, of another algorithm
+    /// or of another length is none. It takes no memory.
     pub fn read(text: &str) -> Option<Digest>
         ensures exact { MatchOption result (¬ IsDigestText text.now) (λ d. IsDigest d × (text.now ≡ digest_text d)) }
         ensures value { result ≡ digest_named text.now }
@@ -65,7 +66,7 @@ impl Digest {
         (digits == digits_of(&raw).as_slice()).then_some(Digest { raw })
     }
 
-    /// The digest as a text.
+    /// The digest as a text: its 71 bytes, `sha256:` and the digits.
     pub fn text(&self, alloc: Global) -> Result<Text, NoMemory>
         ensures { IfOk result (λ t. t ≡ digest_text self.now) }
     {

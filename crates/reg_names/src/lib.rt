@@ -30,4 +30,4 @@ pub use reference::{Reference, references_read_back};
 pub use refused::{NoMemory, Refused};
 pub use tag::Tag;
 pub use text::Text;
-pub use upload_id::{UploadId, upload_ids_read_back};
+pub use upload_id::{UploadId, upload_ids_are_ordered_as_texts, upload_ids_read_back};

@@ -33,7 +33,8 @@ impl Model for Name {
 }
 
 impl Name {
-    /// The name that a text is, and `None` exactly where it is none.
+    /// The name that a text is, and `None` exactly where it is none: components of `a` to `z` and digits, with `.`, `_`,
+    /// `__` or dashes inside them and `/` between them, at most 255 bytes in all.
     pub fn read(alloc: Global, text: &str) -> Result<Option<Name>, NoMemory>
         ensures { IfOk result (ReadsExactly IsName text.now) }
     {
@@ -69,6 +70,7 @@ impl Name {
         Ok(Name { text })
     }
 
+    /// The name's text: 1 to 255 bytes of ASCII.
     pub fn as_str(&self) -> &str
         ensures bytes { result.now ≡ self.now }
         ensures name { IsName self.now }

@@ -18,7 +18,7 @@ pub enum Reference {
 }
 
 impl Reference {
-    /// The reference whose text this is, and `None` exactly where it is none's.
+    /// The reference whose text this is, and `None` exactly where it is neither a tag's nor a digest's.
     pub fn read(alloc: Global, text: &str) -> Result<Option<Reference>, NoMemory>
         ensures exact { IfOk result (ReadsText IsReference reference_text text.now) }
         ensures value { IfOk result (λ found. found ≡ reference_named text.now) }

@@ -32,7 +32,7 @@ impl Model for Tag {
 }
 
 impl Tag {
-    /// The tag that a text is, and `None` exactly where it is none.
+    /// The tag that a text is, and `None` exactly where it is none: `[a-zA-Z0-9_][a-zA-Z0-9._-]{0,127}`.
     pub fn read(alloc: Global, text: &str) -> Result<Option<Tag>, NoMemory>
         ensures { IfOk result (ReadsExactly IsTag text.now) }
     {
@@ -68,6 +68,7 @@ impl Tag {
         Ok(Tag { text })
     }
 
+    /// The tag's text: 1 to 128 bytes of ASCII.
     pub fn as_str(&self) -> &str
         ensures bytes { result.now ≡ self.now }
         ensures tag { IsTag self.now }

@@ -7,6 +7,8 @@ use std::alloc::Global;
 use std::cmp::Ordering;
 use std::test::Fail;
 
+mod bytes;
+
 const LETTERS: [u8; 256] = [b'a'; 256];
 
 // The example of the OCI Image Specification 1.1, "Digests".

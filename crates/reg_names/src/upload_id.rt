@@ -1,5 +1,7 @@
 //! Ids of uploads.
 ghost use Rattle.std.specs.Prelude.{◌≡◌, ℕ, List, Ok, IfOk};
+ghost use Rattle.std.specs.Ordering.{nat_cmp};
+ghost use Rattle.std.specs.Cmp.Lexicographic.{slice_cmp};
 ghost use Rattle.reg_names.specs.Reading.{ReadsText};
 ghost use Rattle.reg_names.specs.UploadIds.{IsUploadId, upload_id_text, upload_id_named, version_4};
 
@@ -38,8 +40,8 @@ impl UploadId {
         UploadId::of_uuid(Builder::from_random_bytes(bytes).into_uuid())
     }
 
-    /// The id whose text this is, and `None` exactly where it is no id's. It takes no memory, and never
-    /// answers want of it.
+    /// The id whose text this is, and `None` exactly where it is no id's: 8-4-4-4-12 lower-case hexadecimal digits (RFC
+    /// 9562, section 4), of any version. It takes no memory, and never answers want of it.
     pub fn read(text: &str) -> Result<Option<UploadId>, NoMemory>
         ensures exact { IfOk result (ReadsText IsUploadId upload_id_text text.now) }
         ensures value { result ≡ Ok (upload_id_named text.now) }
@@ -63,7 +65,7 @@ impl UploadId {
         }
     }
 
-    /// The id as a text.
+    /// The id as a text, in 36 bytes.
     pub fn text(&self, alloc: Global) -> Result<Text, NoMemory>
         ensures { IfOk result (λ t. t ≡ upload_id_text self.now) }
     {
@@ -98,4 +100,9 @@ impl UploadId {
 /// The text of each id reads back to that id.
 pub fn upload_ids_read_back()
     ensures { (id : List ℕ) → IsUploadId id → upload_id_named (upload_id_text id) ≡ Some id }
+{}
+
+/// The order of ids is that of their texts.
+pub fn upload_ids_are_ordered_as_texts()
+    ensures { (id other : List ℕ) → IsUploadId id → IsUploadId other → slice_cmp nat_cmp id other ≡ slice_cmp nat_cmp (upload_id_text id) (upload_id_text other) }
 {}
