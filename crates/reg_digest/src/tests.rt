@@ -2,7 +2,7 @@
 ghost use Rattle.std.specs.Prelude.{◌≡◌, ◌<◌};
 ghost use Rattle.reg_digest.specs.Hashing.{digest_by_sha256};
 
-use crate::{Hashing, digest_of};
+use crate::{Hashing, digest_of, is_digest_of};
 use reg_names::Digest;
 use std::test::Fail;
 
@@ -17,6 +17,10 @@ fn digest_in_pieces(message: &[u8], size: usize) -> Digest
     }
     hashing.done()
 }
+
+// An image manifest of one layer, `hello`, and the configuration `{}`: 371 bytes.
+const MANIFEST: &str =
+    r#"{"schemaVersion":2,"mediaType":"application/vnd.oci.image.manifest.v1+json","config":{"mediaType":"application/vnd.oci.empty.v1+json","digest":"sha256:44136fa355b3678a1146ad16f7e8649e94fb4fc21fe77e8310c060f61caaff8a","size":2},"layers":[{"mediaType":"application/octet-stream","digest":"sha256:2cf24dba5fb0a30e26e83b2ac5b9e29e1b161e5c1fa7425e73043362938b9824","size":5}]}"#;
 
 #[test]
 fn published_vectors(rt: HostRuntime) -> Result<(), Fail> {
@@ -41,10 +45,33 @@ fn published_vectors(rt: HostRuntime) -> Result<(), Fail> {
             "{}",
             "sha256:44136fa355b3678a1146ad16f7e8649e94fb4fc21fe77e8310c060f61caaff8a",
         ),
+        (
+            MANIFEST,
+            "sha256:98e12f26c1511cdf1aa0ed2ae2ead722b2a3f5d57c57f99e65a44faf9504395c",
+        ),
     ];
     for (message, digest) in vectors {
         let text = digest_of(message.as_bytes()).text(rt.alloc())?;
         assert_eq!(rt; text.as_str(), digest, "of {message:?}");
+    }
+    Ok(())
+}
+
+#[test]
+fn bytes_are_tested_against_digests(rt: HostRuntime) -> Result<(), Fail> {
+    assert_eq!(rt; MANIFEST.len(), 371);
+    let digest = "sha256:98e12f26c1511cdf1aa0ed2ae2ead722b2a3f5d57c57f99e65a44faf9504395c";
+    let digest = Digest::read(digest).ok_or("no digest")?;
+    assert!(rt; is_digest_of(&digest, MANIFEST.as_bytes()));
+    for bytes in [
+        "",
+        "hello",
+        "{}",
+        &MANIFEST[1..],
+        &MANIFEST[..370],
+        "sha256:98e12f26c1511cdf1aa0ed2ae2ead722b2a3f5d57c57f99e65a44faf9504395c",
+    ] {
+        assert!(rt; !is_digest_of(&digest, bytes.as_bytes()), "{bytes}");
     }
     Ok(())
 }
