@@ -1,6 +1,6 @@
 -- The document that bytes are, by the object in them.
 use Rattle.std.proofs.Common.{◌≡◌, ℕ, List, [], ◌∷◌, nat_eq, Bool, true, false, cond, not, codes, Option, Some, None, Result, Ok, Err, ok_or, refl, sym, ap, subst, ◌∙◌}
-use Rattle.std.specs.Prelude.{◌&&◌, ◌||◌, is_some, option_and_then}
+use Rattle.std.specs.Prelude.{◌&&◌, ◌||◌, is_some, option_and_then, IfOk, IfErr}
 use Rattle.std.specs.Option.{option_map_or}
 use Rattle.std.specs.List.{list_all, list_any}
 use Rattle.std.specs.Cmp.Lexicographic.{pointwise}
@@ -13,10 +13,10 @@ use Rattle.reg_names.proofs.NamedLaws.{same_named, same_digests}
 use Rattle.manifest_doc.specs.declared.document.Doc.{Doc}
 use Rattle.manifest_doc.specs.declared.fault.DocFault.{DocFault}
 use Rattle.manifest_doc.specs.declared.fault.DocFault.TheVariants.{NotJson, NoKind, BadDescriptor, TooMany, NoMemory}
-use Rattle.manifest_doc.specs.Faults.{GivesOrNoMemory}
+use Rattle.manifest_doc.specs.Faults.{IsDue}
 use Rattle.manifest_doc.specs.Kinds.{object_in, kind_of_object}
 use Rattle.manifest_doc.specs.Descriptors.{elements, described, is_descriptor, descriptors}
-use Rattle.manifest_doc.specs.Documents.{is_small, judged, verdict, config_read, config, layers, manifests, is_of, is_named, AreNamed, AreChildren, IsObjectDocument, IsDocument, ReadsObject, ReadsDocument}
+use Rattle.manifest_doc.specs.Documents.{is_small, judged, verdict, config_read, config, layers, manifests, is_of, is_named, AreNamed, AreChildren, IsObjectDocument, IsDocument}
 use Rattle.manifest_doc.specs.declared.descriptors.Descriptor.{Descriptor}
 
 fault_of : (o : Option Data) (f : Data → Result Kind DocFault) (fault : DocFault) → ok_or o NotJson ≡ Err fault → option_map_or f o (Err NotJson) ≡ Err fault
@@ -24,7 +24,7 @@ fault_of None f fault e = cc
 fault_of (Some d) f fault e = cc
 
 -- bytes that are no object
-pub not_read : (bytes : List ℕ) (fault : DocFault) → GivesOrNoMemory (ok_or (object_in bytes) NotJson) (Err fault) → GivesOrNoMemory (verdict bytes) (Err fault)
+pub not_read : (bytes : List ℕ) (fault : DocFault) → IsDue (ok_or (object_in bytes) NotJson) fault → IsDue (verdict bytes) fault
 unfolding verdict
 not_read bytes NotJson h = fault_of (object_in bytes) _ NotJson h
 not_read bytes NoKind h = fault_of (object_in bytes) _ NoKind h
@@ -32,15 +32,22 @@ not_read bytes BadDescriptor h = fault_of (object_in bytes) _ BadDescriptor h
 not_read bytes TooMany h = fault_of (object_in bytes) _ TooMany h
 not_read bytes NoMemory h = tt
 
--- bytes that are an object
-pub read_of : (bytes : List ℕ) (d : Data) (result : Result Doc DocFault) → object_in bytes ≡ Some d → ReadsObject d result → ReadsDocument bytes result
+failed_of : (bytes : List ℕ) (d : Data) (fault : DocFault) → object_in bytes ≡ Some d → IsDue (judged d) fault → IsDue (verdict bytes) fault
 unfolding verdict
+failed_of bytes d NotJson is h = ap (λ o. option_map_or judged o (Err NotJson)) is ∙ h
+failed_of bytes d NoKind is h = ap (λ o. option_map_or judged o (Err NotJson)) is ∙ h
+failed_of bytes d BadDescriptor is h = ap (λ o. option_map_or judged o (Err NotJson)) is ∙ h
+failed_of bytes d TooMany is h = ap (λ o. option_map_or judged o (Err NotJson)) is ∙ h
+failed_of bytes d NoMemory is h = tt
+
+-- bytes that are an object: their document is the object's, and the test that they fail is the one that it fails
+pub read_of : (bytes : List ℕ) (d : Data) (result : Result Doc DocFault) → object_in bytes ≡ Some d → IfOk result (IsObjectDocument d) → IfOk result (IsDocument bytes)
 read_of bytes d (Ok doc) is h = record { object = d; is = is; document = h }
-read_of bytes d (Err NotJson) is h = ap (λ o. option_map_or judged o (Err NotJson)) is ∙ h
-read_of bytes d (Err NoKind) is h = ap (λ o. option_map_or judged o (Err NotJson)) is ∙ h
-read_of bytes d (Err BadDescriptor) is h = ap (λ o. option_map_or judged o (Err NotJson)) is ∙ h
-read_of bytes d (Err TooMany) is h = ap (λ o. option_map_or judged o (Err NotJson)) is ∙ h
-read_of bytes d (Err NoMemory) is h = tt
+read_of bytes d (Err fault) is h = tt
+
+pub fault_of_object : (bytes : List ℕ) (d : Data) (result : Result Doc DocFault) → object_in bytes ≡ Some d → IfErr result (IsDue (judged d)) → IfErr result (IsDue (verdict bytes))
+fault_of_object bytes d (Ok doc) is h = tt
+fault_of_object bytes d (Err fault) is h = failed_of bytes d fault is h
 
 passed : (o : Option Kind) (kind : Kind) (small configured layered listing : Bool) → o ≡ Some kind → small ≡ true → configured ≡ true → layered ≡ true → listing ≡ true → option_map_or (λ k. cond (not small) (Err TooMany) (cond (not (configured && layered && listing)) (Err BadDescriptor) (Ok k))) o (Err NoKind) ≡ Ok kind
 passed o kind small configured layered listing a b c e f = rw (a, b, c, e, f) refl
@@ -86,7 +93,7 @@ pub passes : (bytes : List ℕ) (doc : Doc) → IsDocument bytes doc → verdict
 unfolding verdict
 passes bytes doc h = ap (λ o. option_map_or judged o (Err NotJson)) h.is ∙ h.document.kind
 
-same_object : (bytes : List ℕ) (d e : Data) → object_in bytes ≡ Some d → object_in bytes ≡ Some e → d ≡ e
+pub same_object : (bytes : List ℕ) (d e : Data) → object_in bytes ≡ Some d → object_in bytes ≡ Some e → d ≡ e
 same_object bytes d e p q = cc (sym p ∙ q)
 
 listed_of : (q : List ℕ) (ns : List Named) → has_digest q (digests_of ns) ≡ is_some (free_in q ns)

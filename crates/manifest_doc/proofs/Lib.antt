@@ -3,4 +3,5 @@ pub mod Elements
 pub mod ListLaws
 pub mod FreedomLaws
 pub mod DocumentLaws
+pub mod MemberLaws
 pub mod OneDocumentLaws

@@ -1,6 +1,7 @@
 -- The document that is computed of bytes is the one that they are.
 use Rattle.std.proofs.Common.{◌≡◌, ℕ, List, [], ◌∷◌, map, nat_eq, Bool, true, false, cond, Option, Some, None, Result, Ok, Err, refl, sym, ap, subst, ◌∙◌}
 use Rattle.std.specs.Prelude.{◌↔◌, ◌||◌, option_and_then, option_map}
+use Rattle.std.specs.Option.{option_map_or}
 use Rattle.std.specs.Result.{result_ok}
 use Rattle.std.specs.List.{AllByRecursion, list_any}
 use Rattle.std.specs.List.Sorted.{IsStrictlySortedBy}
@@ -15,6 +16,7 @@ use Rattle.reg_names.specs.declared.named.Named.{Named}
 use Rattle.reg_names.specs.Named.{Ascends, digests_of, free_in, has_digest}
 use Rattle.manifest_doc.specs.declared.document.Doc.{Doc}
 use Rattle.manifest_doc.specs.declared.fault.DocFault.{DocFault}
+use Rattle.manifest_doc.specs.declared.fault.DocFault.TheVariants.{NotJson}
 use Rattle.manifest_doc.specs.declared.descriptors.Descriptor.{Descriptor}
 use Rattle.manifest_doc.specs.Kinds.{object_in}
 use Rattle.manifest_doc.specs.Documents.{judged, verdict, config, layers, manifests, is_of, is_named, is_free, AreNamed, AreChildren, IsObjectDocument, IsDocument}
@@ -165,6 +167,14 @@ computes bytes doc h =
 
 pub computed : (bytes : List ℕ) (doc : Doc) → (document_in bytes ≡ Some doc) ↔ IsDocument bytes doc
 computed bytes doc = (from_computed bytes doc, computes bytes doc)
+
+-- bytes that pass the tests are a document
+pub has_document : (bytes : List ℕ) (kind : Kind) → verdict bytes ≡ Ok kind → (doc : Doc) × IsDocument bytes doc
+unfolding verdict
+has_document bytes kind passed = at_found (object_in bytes) refl passed where
+  at_found : (o : Option Data) → object_in bytes ≡ o → option_map_or judged o (Err NotJson) ≡ Ok kind → (doc : Doc) × IsDocument bytes doc
+  at_found None is e = absurd (cc e)
+  at_found (Some d) is e = (doc_by d kind, record { object = d; is = is; document = doc_is d kind e })
 
 -- nothing is computed of bytes that fail a test
 pub not_computed : (bytes : List ℕ) (fault : DocFault) → verdict bytes ≡ Err fault → document_in bytes ≡ None

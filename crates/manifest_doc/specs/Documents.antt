@@ -14,7 +14,6 @@ use Rattle.manifest_doc.specs.declared.descriptors.Descriptor.{Descriptor}
 use Rattle.manifest_doc.specs.declared.document.Doc.{Doc}
 use Rattle.manifest_doc.specs.declared.fault.DocFault.{DocFault}
 use Rattle.manifest_doc.specs.declared.fault.DocFault.TheVariants.{NotJson, NoKind, BadDescriptor, TooMany}
-use Rattle.manifest_doc.specs.Faults.{GivesOrNoMemory}
 
 -- ---- the tests
 
@@ -80,19 +79,9 @@ pub record IsDocument (bytes : List ℕ) (doc : Doc) : Type 0 where
   pub is : object_in bytes ≡ Some object
   pub document : IsObjectDocument object doc
 
--- ---- what a call may answer
+-- ---- what is read of an object
 
 -- the configuration's descriptor, where there is a configuration
 abbrev pub config_read : Option Data → Result (Option Descriptor) DocFault
 config_read None = Ok None
 config_read (Some d) = option_map_or (λ e. Ok (Some e)) (described d) (Err BadDescriptor)
-
--- the document that the object is, or the first test that it fails; or memory was wanting
-abbrev pub ReadsObject : Data → Result Doc DocFault → Type 0
-ReadsObject d (Ok doc) = IsObjectDocument d doc
-ReadsObject d (Err fault) = GivesOrNoMemory (judged d) (Err fault)
-
--- the document that the bytes are, or the first test that they fail; or memory was wanting
-abbrev pub ReadsDocument : List ℕ → Result Doc DocFault → Type 0
-ReadsDocument bytes (Ok doc) = IsDocument bytes doc
-ReadsDocument bytes (Err fault) = GivesOrNoMemory (verdict bytes) (Err fault)

@@ -2,7 +2,7 @@
 ghost use Rattle.std.specs.Prelude.{◌≡◌, true, map, IfOk, IfErr};
 ghost use Rattle.std.specs.List.{list_all};
 ghost use Rattle.serde_json.specs.View.{view};
-ghost use Rattle.manifest_doc.specs.Faults.{GivesOrNoMemory, bad_unless};
+ghost use Rattle.manifest_doc.specs.Faults.{IsDue, bad_unless};
 ghost use Rattle.manifest_doc.specs.Descriptors.{elements, elements_of, are_strings, has_fields, digest_in, described, is_descriptor, descriptors};
 
 use crate::DocFault;
@@ -35,7 +35,7 @@ impl Descriptor {
 pub(crate) fn read_all(alloc: Global, values: &[Value]) -> Result<Vec<Descriptor>, DocFault>
     ensures all { IfOk result (λ _. list_all is_descriptor (map view values.now) ≡ true) }
     ensures value { IfOk result (λ ds. ds.items ≡ descriptors (map view values.now)) }
-    ensures err { IfErr result (λ fault. GivesOrNoMemory (bad_unless (list_all is_descriptor (map view values.now))) (Err fault)) }
+    ensures err { IfErr result (IsDue (bad_unless (list_all is_descriptor (map view values.now)))) }
 {
     let mut found = Vec::with_capacity(alloc, values.len())?;
     for value in values {

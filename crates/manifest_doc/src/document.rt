@@ -1,8 +1,9 @@
 //! Documents.
-ghost use Rattle.std.specs.Prelude.{◌≡◌, codes};
+ghost use Rattle.std.specs.Prelude.{◌≡◌, codes, IfOk, IfErr};
 ghost use Rattle.serde_json.specs.Find.{get};
 ghost use Rattle.serde_json.specs.View.{view};
-ghost use Rattle.manifest_doc.specs.Documents.{ReadsDocument, ReadsObject, is_small, config_read};
+ghost use Rattle.manifest_doc.specs.Faults.{IsDue};
+ghost use Rattle.manifest_doc.specs.Documents.{IsDocument, IsObjectDocument, judged, verdict, is_small, config_read};
 
 use crate::descriptors::{Descriptor, elements, read_all};
 use crate::kinds::{kind_of_object, read_object};
@@ -24,9 +25,11 @@ pub struct Doc {
     pub children: DigestList,
 }
 
-/// The document that bytes are, or the first test that they fail.
+/// The document that bytes are, or the first test that they fail (OCI Image Specification 1.1, "Image Manifest
+/// Specification" and "Image Index Specification").
 pub fn read_doc(alloc: Global, bytes: &[u8]) -> Result<Doc, DocFault>
-    ensures { ReadsDocument bytes.now result }
+    ensures ok { IfOk result (IsDocument bytes.now) }
+    ensures err { IfErr result (IsDue (verdict bytes.now)) }
 {
     let object = read_object(alloc, bytes)?;
     read_members(alloc, &object)
@@ -34,7 +37,8 @@ pub fn read_doc(alloc: Global, bytes: &[u8]) -> Result<Doc, DocFault>
 
 // The document that an object is.
 fn read_members(alloc: Global, object: &Value) -> Result<Doc, DocFault>
-    ensures { ReadsObject (view object.now) result }
+    ensures ok { IfOk result (IsObjectDocument (view object.now)) }
+    ensures err { IfErr result (IsDue (judged (view object.now))) }
 {
     let kind = kind_of_object(object).ok_or(DocFault::NoKind)?;
     if !is_small(object) {

@@ -2,7 +2,8 @@
 use reg_names::NoMemory;
 use std::alloc::{AllocError, AllocFailed};
 
-/// The first test that bytes fail, in this order but for `NoMemory`, which may come at any time.
+/// The first of the four tests that bytes fail. The tests are made in the order `NotJson`, `NoKind`, `TooMany`,
+/// `BadDescriptor`; `NoMemory` may come at any time.
 #[derive(Clone, Copy, Debug, PartialEq, Eq)]
 pub enum DocFault {
     /// The bytes are no JSON text, or the value is no object.

@@ -1,7 +1,7 @@
 //! The kind of a document.
 ghost use Rattle.std.specs.Prelude.{◌≡◌, IfOk, IfErr, ok_or};
 ghost use Rattle.serde_json.specs.View.{view};
-ghost use Rattle.manifest_doc.specs.Faults.{GivesOrNoMemory};
+ghost use Rattle.manifest_doc.specs.Faults.{IsDue};
 ghost use Rattle.manifest_doc.specs.Kinds.{object_in, has_version_two, kind_told, is_image, is_index, has_shape, kind_of_object};
 
 use crate::DocFault;
@@ -12,7 +12,7 @@ use std::alloc::Global;
 /// The object that bytes are as JSON.
 pub(crate) fn read_object(alloc: Global, bytes: &[u8]) -> Result<Value, DocFault>
     ensures ok { IfOk result (λ v. object_in bytes.now ≡ Some (view v)) }
-    ensures err { IfErr result (λ fault. GivesOrNoMemory (ok_or (object_in bytes.now) DocFault.NotJson) (Err fault)) }
+    ensures err { IfErr result (IsDue (ok_or (object_in bytes.now) DocFault.NotJson)) }
 {
     match Value::from_slice(alloc, bytes) {
         Ok(value) if value.is_object() => Ok(value),

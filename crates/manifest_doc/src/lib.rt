@@ -17,7 +17,7 @@ mod tests;
 pub use document::{Doc, read_doc};
 pub use fault::DocFault;
 pub use laws::{
-    bytes_are_one_document, children_are_listed, documents_are_computed, documents_pass_the_tests,
-    what_is_named_is_held,
+    bytes_are_one_document, bytes_that_pass_are_a_document, children_are_listed,
+    documents_are_computed, documents_pass_the_tests, what_is_free_has_urls, what_is_named_is_held,
 };
-pub use reg_names::{DigestList, Kind, NamedList};
+pub use reg_names::{DigestList, Kind, Named, NamedList};

@@ -1,5 +1,5 @@
 //! What a document names and lists, in order and without repeats.
-ghost use Rattle.std.specs.Prelude.{◌≡◌, ℕ, true, List, OnOk, IfOk};
+ghost use Rattle.std.specs.Prelude.{◌≡◌, ℕ, true, ◌&&◌, List, OnOk, IfOk};
 ghost use Rattle.std.specs.Ordering.{nat_cmp};
 ghost use Rattle.std.specs.Cmp.Lexicographic.{slice_cmp};
 ghost use Rattle.std.specs.BTreeMap as tree;
@@ -57,16 +57,16 @@ fn note(
 ) -> Result<(), NoMemory>
     ensures { OnOk result ((q : List ℕ) → tree.get (slice_cmp nat_cmp) freedoms.new q ≡ with_note (tree.get (slice_cmp nat_cmp) freedoms.old) digest has_urls q) }
 {
-    let free = is_free(freedoms, &digest) && has_urls;
+    let free = stays_free(freedoms, &digest, has_urls);
     freedoms.insert(digest, free)?;
     Ok(())
 }
 
-// Whether a digest is free by the occurrences so far.
-fn is_free(freedoms: &BTreeMap<Digest, bool>, digest: &Digest) -> bool
-    ensures { result ≡ unwrap_or (tree.get (slice_cmp nat_cmp) freedoms.now digest.now) true }
+// Whether a digest is free by the occurrences so far and by one more, which has URLs or not.
+fn stays_free(freedoms: &BTreeMap<Digest, bool>, digest: &Digest, has_urls: bool) -> bool
+    ensures { result ≡ (unwrap_or (tree.get (slice_cmp nat_cmp) freedoms.now digest.now) true && has_urls) }
 {
-    freedoms.get(digest).copied().unwrap_or(true)
+    freedoms.get(digest).copied().unwrap_or(true) && has_urls
 }
 
 /// The digests of listed manifests.

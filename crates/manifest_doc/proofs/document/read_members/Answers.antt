@@ -3,8 +3,8 @@ use Rattle.serde_json.specs.View.{view}
 use Rattle.manifest_doc.proofs.DocumentLaws.{document_of}
 use Rattle.manifest_doc.proofs.document.read_members.Goals as goal
 
-pub returns : goal.returns
-returns c = document_of (view c.args.object.now) _ record {
+pub returns-clause-ok : goal.returns-clause-ok
+returns-clause-ok c = document_of (view c.args.object.now) _ record {
   config = c.in_ok-config.config;
   layer_values = map view c.elements.result.now;
   manifest_values = map view c.elements-2.result.now;

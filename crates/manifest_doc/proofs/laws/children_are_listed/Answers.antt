@@ -1,5 +1,5 @@
-use Rattle.manifest_doc.proofs.DocumentLaws.{children_of}
+use Rattle.manifest_doc.proofs.MemberLaws.{lists_of}
 use Rattle.manifest_doc.proofs.laws.children_are_listed.Goals as goal
 
 pub returns : goal.returns
-returns c = children_of
+returns c = lists_of
