@@ -1,15 +1,18 @@
--- The state of a registry: what its repositories have. The moments of links, and the digests whose removal has been
--- decided, come with the journal.
+-- The state of a registry: what its repositories have, by their names. A name is the list of its bytes, as a tag is; a
+-- digest is its algorithm's byte and its raw bytes. A state holds neither moments nor content, and no blob that no
+-- repository links.
 use Rattle.std.specs.Prelude.{ℕ, Bool, false, ◌⊎◌, List, Option, None, IsSome, IsTrue}
 use Rattle.std.specs.Option.{option_map_or}
 use Rattle.reg_names.specs.Named.{has_digest}
 use Rattle.reg_entries.specs.declared.document.Document.{Document}
 
--- by a repository's name and a digest its manifests and the sizes of the blobs that it links, and by its name and a
--- tag the digest that the tag points to
+-- Each field is asked by a repository's name first, and answers nothing where the repository has no such thing.
 pub record State : Type 0 where
+  -- what is kept of the manifest that the repository has under a digest
   pub manifests : List ℕ → List ℕ → Option Document
+  -- how many bytes the blob of a digest has, which the repository links
   pub links : List ℕ → List ℕ → Option ℕ
+  -- the digest that a tag of the repository points to
   pub tags : List ℕ → List ℕ → Option (List ℕ)
 
 -- the state in which no repository has anything

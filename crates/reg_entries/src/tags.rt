@@ -1,10 +1,11 @@
 //! Lists of tags.
-ghost use Rattle.std.specs.Prelude.{◌≡◌};
+ghost use Rattle.std.specs.Prelude.{◌≡◌, ◌↔◌, [], IsTrue, length};
 
 use reg_names::Tag;
 use std::marker::Model;
 
-/// Any tags, which contracts see as the list of them.
+/// Any tags, in any order and also more than once, which contracts see as the list of their texts. A list of a
+/// repository's tags (OCI Distribution Specification 1.1, "Listing Tags") is in byte order, which its maker says.
 #[derive(Debug, Drop)]
 pub struct Tags {
     tags: Vec<Tag>,
@@ -34,10 +35,25 @@ impl Tags {
         tags
     }
 
+    /// The tags, in their order.
     pub fn as_slice(&self) -> &[Tag]
         ensures { result.now ≡ self.now }
     {
         &self.tags
+    }
+
+    /// How many tags there are.
+    pub fn len(&self) -> usize
+        ensures { result ≡ length self.now }
+    {
+        self.tags.len()
+    }
+
+    /// Whether there is no tag.
+    pub fn is_empty(&self) -> bool
+        ensures { IsTrue result ↔ (self.now ≡ []) }
+    {
+        self.tags.is_empty()
     }
 }
 
