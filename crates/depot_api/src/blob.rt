@@ -27,8 +27,11 @@ pub trait Blob {
         ensures most { left self.now ≤ 2 ^ 62 }
         ensures bytes { IsTrue (tells self.now) → left self.now ≡ length (bytes self.now) };
 
-    /// Fills the front of `into`, and answers how many bytes it gave: 0 only where none is left, or for an empty
-    /// room. A file that ends before is a fault. After a fault the same bytes are left. Takes no memory.
+    /// Fills the front of `into` with the next bytes, leaves the rest of it, and answers how many bytes it gave:
+    /// between 1 and the length of `into`, and 0 only where none is left, or for an empty room. Takes no memory.
+    ///
+    /// Errors: `BlobFault` where a read failed, or the file ended before its bytes were all given. The count of faults
+    /// rose, and the same bytes are left.
     fn read(&mut self, into: &mut [u8]) -> Result<usize, BlobFault>
         ensures count { ReadsSome (length into.old) (left self.old) (left self.new) result }
         ensures bytes { IsTrue (tells self.old) → ReadsNext into.old into.new (bytes self.old) (bytes self.new) result }

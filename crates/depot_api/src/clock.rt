@@ -6,7 +6,7 @@ pub trait Clock {
     /// The one moment that it reads, where the clock tells that.
     ghost reading: { Self → Option ℕ };
 
-    /// The moment in seconds since 1970, at most 2^62.
+    /// The moment in seconds since 1970, at most 2^62. Takes no memory, and cannot fail.
     fn now(&self) -> u64
         ensures moment { result ≤ 2 ^ 62 }
         ensures told { IfSome (reading self.now) (λ at. result ≡ at) };

@@ -43,7 +43,11 @@ pub trait Depot {
     /// How often it has failed. No call makes it fall.
     ghost faults: { Self → ℕ };
 
-    /// How many bytes a file has, at most 2^62, and `None` exactly where there is none.
+    /// How many bytes the file at a path has, at most 2^62, and `None` exactly where there is no file, also where the
+    /// path is that of a folder. An empty file has 0.
+    ///
+    /// Errors, here and in the calls below: `Failed` where the depot failed and its count of faults rose, and
+    /// `NoMemory`, which is tied to no cause. Both leave all files as they were.
     fn size(&mut self, alloc: Global, at: &Path) -> Result<Option<u64>, Refused>
         ensures value { IsTrue (tells self.old) → IfOk result (λ size. size ≡ option_map length (files self.old at.now)) }
         ensures most { IfOk result (λ size. IfSome size (λ n. n ≤ 2 ^ 62)) }
@@ -51,7 +55,8 @@ pub trait Depot {
         ensures tells { tells self.new ≡ tells self.old }
         ensures cause { HasCause (faults self.old) (faults self.new) (IsErrOf result refusals.Failed) };
 
-    /// The bytes of a file that has at most `most` of them.
+    /// All bytes of the file at a path, where it has at most `most` of them: `Absent` where there is no file, `TooLong`
+    /// where it has more, and never a part of it.
     fn read_small(&mut self, alloc: Global, at: &Path, most: u64) -> Result<Small, Refused>
         ensures value { IsTrue (tells self.old) → IfOk result (λ r. r ≡ small most (files self.old at.now)) }
         ensures most { IfOk result (IsUpTo most) }
@@ -59,7 +64,8 @@ pub trait Depot {
         ensures tells { tells self.new ≡ tells self.old }
         ensures cause { HasCause (faults self.old) (faults self.new) (IsErrOf result refusals.Failed) };
 
-    /// A file, to be read in pieces, and `None` exactly where there is none. The blob has had no fault.
+    /// The file at a path, to be read in pieces from its first byte, and `None` exactly where there is none. The blob
+    /// has had no fault. Whoever took it gives it back by `done`.
     fn fetch(&mut self, alloc: Global, at: &Path) -> Result<Option<Self::B>, Refused>
         ensures value { IsTrue (tells self.old) → IfOk result (λ found. option_map Self.B.bytes found ≡ files self.old at.now) }
         ensures telling { IfOk result (λ found. IfSome found (λ blob. Self.B.tells blob ≡ tells self.old)) }
@@ -69,7 +75,10 @@ pub trait Depot {
         ensures cause { HasCause (faults self.old) (faults self.new) (IsErrOf result refusals.Failed) };
 
     /// The first `most` paths of files, in the order of paths, that begin with the parts of `under` and are above
-    /// `after`. The path `under` begins with itself. There are fewer exactly where no more follow.
+    /// `after`, and not `after` itself. Without `after` they begin with the first one. The path `under` begins with
+    /// itself. There are fewer than `most` exactly where no more follow, and none where `most` is 0.
+    ///
+    /// A walk through all of them asks behind the last path of each page, which need not be there any more.
     fn page(
         &mut self,
         alloc: Global,
@@ -84,7 +93,8 @@ pub trait Depot {
         ensures tells { tells self.new ≡ tells self.old }
         ensures cause { HasCause (faults self.old) (faults self.new) (IsErrOf result refusals.Failed) };
 
-    /// Ends a blob. The faults that it has had count as a fault of the depot. Takes no memory, and cannot fail.
+    /// Ends a blob, read to its end or not. The faults that it has had count as one fault of the depot. Takes no
+    /// memory, and cannot fail.
     fn done(&mut self, blob: Self::B)
         ensures files { files self.new ≡ files self.old }
         ensures tells { tells self.new ≡ tells self.old }

@@ -49,6 +49,7 @@ impl Part {
         Ok(Part { text })
     }
 
+    /// The text of the part, 1 to 255 bytes.
     pub fn as_str(&self) -> &str
         ensures bytes { result.now ≡ self.now }
         ensures part { IsPart self.now }

@@ -26,8 +26,10 @@ pub trait Stage {
         ensures most { staged self.now ≤ 2 ^ 62 }
         ensures bytes { IsTrue (tells self.now) → staged self.now ≡ length (bytes self.now) };
 
-    /// Puts a piece behind the staged bytes. Where it failed it has put a front of the piece there, and nothing where
-    /// memory was wanting.
+    /// Puts all bytes of a piece behind the staged ones. They must be at most 2^62 afterwards.
+    ///
+    /// Errors: `Failed` where the count of faults rose, and a front of the piece was put there, or all or none of it;
+    /// `NoMemory`, where nothing was.
     fn append(&mut self, piece: &[u8]) -> Result<(), Refused>
         requires { staged self.old + length piece.now ≤ 2 ^ 62 }
         ensures count { Grew (length piece.now) (staged self.old) (staged self.new) result }
@@ -35,8 +37,11 @@ pub trait Stage {
         ensures tells { tells self.new ≡ tells self.old }
         ensures cause { HasCause (faults self.old) (faults self.new) (IsErrOf result refusals.Failed) };
 
-    /// Fills the front of `into` with the bytes from `at` on, and answers how many: 0 only where none are staged
-    /// there, or for an empty room.
+    /// Fills the front of `into` with the bytes from number `at` on, counted from 0, leaves the rest of it, and answers
+    /// how many it gave: between 1 and the length of `into`, and 0 only where none are staged there, or for an empty
+    /// room. The staged bytes stay.
+    ///
+    /// Errors: `Failed` where the count of faults rose, and `NoMemory`. What `into` holds is then unknown.
     fn read_at(&mut self, at: u64, into: &mut [u8]) -> Result<usize, Refused>
         ensures count { ReadsUpTo (length into.old) at (staged self.old) result }
         ensures filled { IsTrue (tells self.old) → ReadsFrom at (bytes self.old) into.old into.new result }

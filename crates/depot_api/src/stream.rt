@@ -23,8 +23,10 @@ pub trait Source {
     /// How often it has failed. No call makes it fall.
     ghost faults: { Self → ℕ };
 
-    /// Fills the front of `into`, and answers how many bytes it gave: 0 only at the end of the input, or for
-    /// an empty room. Takes no memory.
+    /// Fills the front of `into` with the next bytes, and answers how many it gave, at most the length of `into`: 0
+    /// only at the end of the input, or for an empty room. Takes no memory.
+    ///
+    /// Errors: `SourceFault` where the count of faults rose. Nothing was given.
     fn read(&mut self, into: &mut [u8]) -> Result<usize, SourceFault>
         ensures bytes { ReadConsumes (left self.old) (left self.new) result into.new }
         ensures count { Gives into.old (given self.old) (given self.new) result }
@@ -39,7 +41,10 @@ pub trait Sink {
     /// How often it has failed. No call makes it fall.
     ghost faults: { Self → ℕ };
 
-    /// Takes the front of `piece`, and answers how many bytes it took: at least one of a piece that is not empty.
+    /// Takes the front of `piece`, and answers how many bytes it took: at least one of a piece that is not empty, and
+    /// at most all. Takes no memory.
+    ///
+    /// Errors: `SinkFault` where the count of faults rose. Nothing was taken.
     fn write(&mut self, piece: &[u8]) -> Result<usize, SinkFault>
         ensures bytes { WriteAppends (taken self.old) (taken self.new) result piece.now }
         ensures count { Takes piece.now result }

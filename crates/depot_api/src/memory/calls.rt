@@ -21,6 +21,7 @@ impl Model for Calls {
 }
 
 impl Calls {
+    /// No call yet. Those whose numbers, from 0, stand in `failing` will fail.
     pub fn new(failing: Vec<u64>) -> Calls
         ensures { result ≡ no_calls failing.items }
     {

@@ -43,6 +43,7 @@ impl FileBytes {
         Ok(FileBytes { bytes })
     }
 
+    /// All bytes of the file.
     pub fn bytes(&self) -> &Bytes
         ensures bytes { result.now ≡ self.now }
         ensures most { length self.now ≤ 2 ^ 62 }

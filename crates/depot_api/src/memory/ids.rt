@@ -15,6 +15,7 @@ pub struct ListedIds {
 impl ListedIds {
     ghost use Rattle.depot_api.specs.ListedIds.{words_of};
 
+    /// Draws these words, from the first on.
     pub fn new(words: Vec<[u8; 16]>) -> ListedIds
         ensures { words_of result ≡ listed words.items }
     {
