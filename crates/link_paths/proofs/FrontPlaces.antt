@@ -4,10 +4,11 @@ use Rattle.std.specs.Prelude.{◌⊎◌, slice_index}
 use Rattle.reg_names.specs.Names.{IsName}
 use Rattle.reg_names.specs.Tags.{IsTag}
 use Rattle.reg_names.specs.Digests.{IsDigest}
+use Rattle.reg_names.specs.UploadIds.{IsUploadId, upload_id_text}
 use Rattle.depot_api.specs.Paths.{parts_of}
 use Rattle.link_paths.specs.declared.place.Place.{Place}
 use Rattle.link_paths.specs.declared.place.Place.TheVariants.{BlobData, Revision, TagCurrent, TagIndex, Layer, UploadData, UploadStarted}
-use Rattle.link_paths.specs.Places.{digits, revision_path, tag_path, tag_index_path, layer_path, place_path, IsPlace}
+use Rattle.link_paths.specs.Places.{digits, revision_path, tag_path, tag_index_path, layer_path, upload_data_path, upload_started_path, place_path, IsPlace}
 use Rattle.link_paths.specs.Folders.{repository_front, tags_front, revisions_front, layers_front, digest_link, repository_of, inside, IsBelow, IsRevisionOf, IsTagOf, IsLayerOf, IsUploadOf}
 use Rattle.link_paths.proofs.Parts.{same_text}
 use Rattle.link_paths.proofs.NameParts.{name_is_open}
@@ -94,3 +95,9 @@ revision_begins name digest n h = parts_of_place (Revision name digest) (n, h) �
 
 pub layer_begins : (name digest : List ℕ) → IsName name → IsDigest digest → layer_path name digest ≡ layers_front name ++ digits digest ∷ codes "link" ∷ []
 layer_begins name digest n h = parts_of_place (Layer name digest) (n, h) ∙ sym (append_assoc (repository_front name) (codes "_layers" ∷ codes "sha256" ∷ []) (digits digest ∷ codes "link" ∷ []))
+
+pub upload_data_begins : (name id : List ℕ) → IsName name → IsUploadId id → upload_data_path name id ≡ repository_front name ++ codes "_uploads" ∷ upload_id_text id ∷ codes "data" ∷ []
+upload_data_begins name id n h = parts_of_place (UploadData name id) (n, h)
+
+pub upload_started_begins : (name id : List ℕ) → IsName name → IsUploadId id → upload_started_path name id ≡ repository_front name ++ codes "_uploads" ∷ upload_id_text id ∷ codes "startedat" ∷ []
+upload_started_begins name id n h = parts_of_place (UploadStarted name id) (n, h)

@@ -1,13 +1,15 @@
 //! Laws of places.
-ghost use Rattle.std.specs.Prelude.{◌≡◌, ◌⊎◌, ℕ, ◌++◌, List, [], ◌∷◌, IsTrue, codes};
+ghost use Rattle.std.specs.Prelude.{◌≡◌, ◌⊎◌, ℕ, ◌++◌, List, [], ◌∷◌, Option, Some, IsTrue, codes};
 ghost use Rattle.std.specs.Ordering.{is_lt, nat_cmp};
 ghost use Rattle.std.specs.Cmp.Lexicographic.{slice_cmp};
 ghost use Rattle.reg_names.specs.Names.{IsName};
 ghost use Rattle.reg_names.specs.Tags.{IsTag};
 ghost use Rattle.reg_names.specs.Digests.{IsDigest};
+ghost use Rattle.reg_names.specs.UploadIds.{IsUploadId, upload_id_text};
 ghost use Rattle.depot_api.specs.Paths.{IsPath, is_below};
-ghost use Rattle.link_paths.specs.Places.{digits, layer_path, revision_path, tag_path, tag_index_path, place_path, IsPlace};
+ghost use Rattle.link_paths.specs.Places.{digits, layer_path, revision_path, tag_path, tag_index_path, upload_data_path, upload_started_path, place_path, IsPlace};
 ghost use Rattle.link_paths.specs.Folders.{repository_front, tags_front, revisions_front, layers_front, digest_link, place_parts, IsRevisionOf, IsTagOf, IsLayerOf, IsUploadOf};
+ghost use Rattle.link_paths.specs.ReadsAt.{ReadsAt};
 ghost use Rattle.link_paths.specs.declared.place.Place.{Place};
 
 /// Each place is where a file may lie.
@@ -18,6 +20,11 @@ pub fn places_are_paths()
 /// No two places have one path.
 pub fn places_are_apart()
     ensures { (p q : Place) → IsPlace p → IsPlace q → place_path p ≡ place_path q → p ≡ q }
+{}
+
+/// What is read exactly from the path of a place is that place.
+pub fn places_read_back()
+    ensures { (place : Place) (found : Option Place) → IsPlace place → ReadsAt IsPlace place_path (place_path place) found → found ≡ Some place }
 {}
 
 /// The parts of each place's path.
@@ -31,6 +38,8 @@ pub fn places_begin_with_folders()
     ensures tag_index { (name tag digest : List ℕ) → IsName name → IsTag tag → IsDigest digest → tag_index_path name tag digest ≡ tags_front name ++ tag ∷ codes "index" ∷ digest_link digest }
     ensures revision { (name digest : List ℕ) → IsName name → IsDigest digest → revision_path name digest ≡ revisions_front name ++ digits digest ∷ codes "link" ∷ [] }
     ensures layer { (name digest : List ℕ) → IsName name → IsDigest digest → layer_path name digest ≡ layers_front name ++ digits digest ∷ codes "link" ∷ [] }
+    ensures upload_data { (name id : List ℕ) → IsName name → IsUploadId id → upload_data_path name id ≡ repository_front name ++ codes "_uploads" ∷ upload_id_text id ∷ codes "data" ∷ [] }
+    ensures upload_started { (name id : List ℕ) → IsName name → IsUploadId id → upload_started_path name id ≡ repository_front name ++ codes "_uploads" ∷ upload_id_text id ∷ codes "startedat" ∷ [] }
 {}
 
 /// The places below a folder of a repository are that repository's, also where its name begins another's.

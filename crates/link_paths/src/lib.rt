@@ -14,7 +14,7 @@ mod tests;
 
 pub use laws::{
     folders_are_apart, places_are_apart, places_are_in_order, places_are_paths,
-    places_begin_with_folders, places_by_parts,
+    places_begin_with_folders, places_by_parts, places_read_back,
 };
 pub use paths::{
     data_path, layer_path, layers_front, path_of, revision_path, revisions_front, tag_index_path,

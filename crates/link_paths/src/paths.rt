@@ -1,10 +1,12 @@
-//! The paths of places.
+//! The paths of places. In the examples `2cf2..9824` stands for the 64 digits of a digest.
 ghost use Rattle.std.specs.Prelude.{◌≡◌, IfOk, take};
 ghost use Rattle.std.specs.String.{string_bytes};
+ghost use Rattle.reg_names.specs.Names.{IsName};
 ghost use Rattle.reg_names.specs.Digests.{IsDigest};
 ghost use Rattle.reg_names.specs.UploadIds.{IsUploadId, upload_id_text};
 ghost use Rattle.depot_api.specs.Paths.{IsPath, parts_of};
-ghost use Rattle.link_paths.specs.Places.{digits, data_path, layer_path, revision_path, tag_path, tag_index_path, upload_data_path, upload_started_path, place_path};
+ghost use Rattle.link_paths.specs.Places.{digits, data_path, layer_path, revision_path, tag_path, tag_index_path, upload_data_path, upload_started_path, place_path, IsPlace};
+ghost use Rattle.link_paths.specs.declared.place.Place.TheVariants as places;
 ghost use Rattle.link_paths.specs.Folders.{tags_front, revisions_front, layers_front};
 
 use crate::Place;
@@ -12,9 +14,11 @@ use depot_api::Path;
 use reg_names::{Digest, Name, NoMemory, Tag, Text, UploadId};
 use std::alloc::Global;
 
-/// Where a place lies.
+/// Where a place lies: `Place::TagCurrent` of `a/b` and `v1` at
+/// `docker/registry/v2/repositories/a/b/_manifests/tags/v1/current/link`. It fails only for want of memory, as all here.
 pub fn path_of(alloc: Global, place: &Place) -> Result<Path, NoMemory>
-    ensures { IfOk result (λ p. p ≡ place_path place.now) }
+    ensures path { IfOk result (λ p. p ≡ place_path place.now) }
+    ensures place { IsPlace place.now }
 {
     match place {
         Place::BlobData(digest) => data_path(alloc, digest),
@@ -27,10 +31,11 @@ pub fn path_of(alloc: Global, place: &Place) -> Result<Path, NoMemory>
     }
 }
 
-/// Where the bytes of a blob lie.
+/// Where the bytes of a blob lie: `docker/registry/v2/blobs/sha256/2c/2cf2..9824/data`.
 #[tactic(auto, unfolding(crate::specs::Places::data_path))]
 pub fn data_path(alloc: Global, digest: &Digest) -> Result<Path, NoMemory>
-    ensures { IfOk result (λ p. p ≡ data_path digest.now) }
+    ensures path { IfOk result (λ p. p ≡ data_path digest.now) }
+    ensures place { IsPlace (places.BlobData digest.now) }
 {
     let first = first_digits_of(alloc, digest)?;
     let digits = digits_of(alloc, digest)?;
@@ -40,10 +45,12 @@ pub fn data_path(alloc: Global, digest: &Digest) -> Result<Path, NoMemory>
     )
 }
 
-/// Where a repository keeps the link to a blob.
+/// Where a repository keeps the link to a blob:
+/// `docker/registry/v2/repositories/a/b/_layers/sha256/2cf2..9824/link`.
 #[tactic(auto, unfolding(crate::specs::Places::layer_path))]
 pub fn layer_path(alloc: Global, name: &Name, digest: &Digest) -> Result<Path, NoMemory>
-    ensures { IfOk result (λ p. p ≡ layer_path name.now digest.now) }
+    ensures path { IfOk result (λ p. p ≡ layer_path name.now digest.now) }
+    ensures place { IsPlace (places.Layer name.now digest.now) }
 {
     let name = name.as_str();
     let digits = digits_of(alloc, digest)?;
@@ -53,10 +60,12 @@ pub fn layer_path(alloc: Global, name: &Name, digest: &Digest) -> Result<Path, N
     )
 }
 
-/// Where a repository keeps the link to a manifest.
+/// Where a repository keeps the link to a manifest:
+/// `docker/registry/v2/repositories/a/b/_manifests/revisions/sha256/2cf2..9824/link`.
 #[tactic(auto, unfolding(crate::specs::Places::revision_path))]
 pub fn revision_path(alloc: Global, name: &Name, digest: &Digest) -> Result<Path, NoMemory>
-    ensures { IfOk result (λ p. p ≡ revision_path name.now digest.now) }
+    ensures path { IfOk result (λ p. p ≡ revision_path name.now digest.now) }
+    ensures place { IsPlace (places.Revision name.now digest.now) }
 {
     let name = name.as_str();
     let digits = digits_of(alloc, digest)?;
@@ -68,10 +77,12 @@ pub fn revision_path(alloc: Global, name: &Name, digest: &Digest) -> Result<Path
     )
 }
 
-/// Where a repository keeps the link of a tag.
+/// Where a repository keeps the link of a tag:
+/// `docker/registry/v2/repositories/a/b/_manifests/tags/v1/current/link`.
 #[tactic(auto, unfolding(crate::specs::Places::tag_path))]
 pub fn tag_path(alloc: Global, name: &Name, tag: &Tag) -> Result<Path, NoMemory>
-    ensures { IfOk result (λ p. p ≡ tag_path name.now tag.now) }
+    ensures path { IfOk result (λ p. p ≡ tag_path name.now tag.now) }
+    ensures place { IsPlace (places.TagCurrent name.now tag.now) }
 {
     let name = name.as_str();
     let tag = tag.as_str();
@@ -83,7 +94,8 @@ pub fn tag_path(alloc: Global, name: &Name, tag: &Tag) -> Result<Path, NoMemory>
     )
 }
 
-/// Where a repository keeps the link of a tag to a manifest that it points to or has pointed to.
+/// Where a repository keeps the link of a tag to a manifest that it points to or has pointed to:
+/// `docker/registry/v2/repositories/a/b/_manifests/tags/v1/index/sha256/2cf2..9824/link`.
 #[tactic(auto, unfolding(crate::specs::Places::tag_index_path))]
 pub fn tag_index_path(
     alloc: Global,
@@ -91,7 +103,8 @@ pub fn tag_index_path(
     tag: &Tag,
     digest: &Digest,
 ) -> Result<Path, NoMemory>
-    ensures { IfOk result (λ p. p ≡ tag_index_path name.now tag.now digest.now) }
+    ensures path { IfOk result (λ p. p ≡ tag_index_path name.now tag.now digest.now) }
+    ensures place { IsPlace (places.TagIndex name.now tag.now digest.now) }
 {
     let name = name.as_str();
     let tag = tag.as_str();
@@ -104,10 +117,12 @@ pub fn tag_index_path(
     )
 }
 
-/// Where a repository keeps the bytes of an upload so far.
+/// Where a repository keeps the bytes of an upload so far:
+/// `docker/registry/v2/repositories/a/b/_uploads/0f8fad5b-d9cb-469f-a165-70867728950e/data`.
 #[tactic(auto, unfolding(crate::specs::Places::upload_data_path))]
 pub fn upload_data_path(alloc: Global, name: &Name, id: &UploadId) -> Result<Path, NoMemory>
-    ensures { IfOk result (λ p. p ≡ upload_data_path name.now id.now) }
+    ensures path { IfOk result (λ p. p ≡ upload_data_path name.now id.now) }
+    ensures place { IsPlace (places.UploadData name.now id.now) }
 {
     let name = name.as_str();
     let id = id_text(alloc, id)?;
@@ -118,10 +133,12 @@ pub fn upload_data_path(alloc: Global, name: &Name, id: &UploadId) -> Result<Pat
     )
 }
 
-/// Where a repository keeps the moment at which an upload was started.
+/// Where a repository keeps the moment at which an upload was started:
+/// `docker/registry/v2/repositories/a/b/_uploads/0f8fad5b-d9cb-469f-a165-70867728950e/startedat`.
 #[tactic(auto, unfolding(crate::specs::Places::upload_started_path))]
 pub fn upload_started_path(alloc: Global, name: &Name, id: &UploadId) -> Result<Path, NoMemory>
-    ensures { IfOk result (λ p. p ≡ upload_started_path name.now id.now) }
+    ensures path { IfOk result (λ p. p ≡ upload_started_path name.now id.now) }
+    ensures place { IsPlace (places.UploadStarted name.now id.now) }
 {
     let name = name.as_str();
     let id = id_text(alloc, id)?;
@@ -132,9 +149,10 @@ pub fn upload_started_path(alloc: Global, name: &Name, id: &UploadId) -> Result<
     )
 }
 
-/// The folder in which a repository keeps the links of its tags.
+/// The folder in which a repository keeps the links of its tags: `docker/registry/v2/repositories/a/b/_manifests/tags`.
 pub fn tags_front(alloc: Global, name: &Name) -> Result<Path, NoMemory>
-    ensures { IfOk result (λ p. p ≡ tags_front name.now) }
+    ensures path { IfOk result (λ p. p ≡ tags_front name.now) }
+    ensures name { IsName name.now }
 {
     let name = name.as_str();
     path(
@@ -143,9 +161,11 @@ pub fn tags_front(alloc: Global, name: &Name) -> Result<Path, NoMemory>
     )
 }
 
-/// The folder in which a repository keeps its links to manifests.
+/// The folder in which a repository keeps its links to manifests:
+/// `docker/registry/v2/repositories/a/b/_manifests/revisions/sha256`.
 pub fn revisions_front(alloc: Global, name: &Name) -> Result<Path, NoMemory>
-    ensures { IfOk result (λ p. p ≡ revisions_front name.now) }
+    ensures path { IfOk result (λ p. p ≡ revisions_front name.now) }
+    ensures name { IsName name.now }
 {
     let name = name.as_str();
     path(
@@ -154,9 +174,10 @@ pub fn revisions_front(alloc: Global, name: &Name) -> Result<Path, NoMemory>
     )
 }
 
-/// The folder in which a repository keeps its links to blobs.
+/// The folder in which a repository keeps its links to blobs: `docker/registry/v2/repositories/a/b/_layers/sha256`.
 pub fn layers_front(alloc: Global, name: &Name) -> Result<Path, NoMemory>
-    ensures { IfOk result (λ p. p ≡ layers_front name.now) }
+    ensures path { IfOk result (λ p. p ≡ layers_front name.now) }
+    ensures name { IsName name.now }
 {
     let name = name.as_str();
     path(
@@ -175,7 +196,8 @@ fn digits_of(alloc: Global, digest: &Digest) -> Result<String, NoMemory>
 
 // The first two of them.
 fn first_digits_of(alloc: Global, digest: &Digest) -> Result<String, NoMemory>
-    ensures { IfOk result (λ text. string_bytes text ≡ take 2 (digits digest.now)) }
+    ensures digits { IfOk result (λ text. string_bytes text ≡ take 2 (digits digest.now)) }
+    ensures digest { IsDigest digest.now }
 {
     Ok(hex::encode(alloc, &digest.raw()[..1])?)
 }

@@ -224,7 +224,9 @@ fn below_root(parts: &[Part]) -> Option<&[Part]>
     }
 }
 
-/// The place that lies at a path, and `None` exactly where none does.
+/// The place that lies at a path, and `None` exactly where none does. It fails only for want of memory.
+/// `docker/registry/v2/repositories/a/b/_manifests/tags/v1/current/link` is `Place::TagCurrent` of `a/b` and `v1`, and
+/// `docker/registry/v2/repositories/a/b/_manifests/tags/v1/current` is no place.
 pub fn read_path(alloc: Global, path: &Path) -> Result<Option<Place>, NoMemory>
     ensures { IfOk result (ReadsAt IsPlace place_path path.now) }
 {

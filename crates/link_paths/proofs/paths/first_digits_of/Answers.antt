@@ -2,5 +2,5 @@ use Rattle.std.proofs.Common.{◌∙◌}
 use Rattle.link_paths.proofs.DigitsInPaths.{first_digits}
 use Rattle.link_paths.proofs.paths.first_digits_of.Goals as goal
 
-pub returns : goal.returns
-returns c = c.in_ok-encode.ensures ∙ first_digits c.args.digest.now c.raw.result.now c.raw.ensures.raw
+pub returns-clause-digits : goal.returns-clause-digits
+returns-clause-digits c = c.in_ok-encode.ensures ∙ first_digits c.args.digest.now c.raw.result.now c.raw.ensures.raw

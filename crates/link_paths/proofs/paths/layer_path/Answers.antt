@@ -8,6 +8,6 @@ path-requires c =
     rw (c.deref.ensures, c.in_ok-format.ensures.ok, c.as_str-name.ensures.bytes, c.in_ok-digits.ensures.digits)
     (IsPath-layer_path c.args.name.now c.args.digest.now c.as_str-name.ensures.name c.digits_of.ensures.digest)
 
-pub returns : goal.returns
+pub returns-clause-path : goal.returns-clause-path
 unfolding layer_path
-returns c = rw (c.deref.ensures, c.in_ok-format.ensures.ok, c.as_str-name.ensures.bytes, c.in_ok-digits.ensures.digits) at c.path.ensures
+returns-clause-path c = rw (c.deref.ensures, c.in_ok-format.ensures.ok, c.as_str-name.ensures.bytes, c.in_ok-digits.ensures.digits) at c.path.ensures

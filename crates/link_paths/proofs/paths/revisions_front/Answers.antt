@@ -7,7 +7,7 @@ path-requires c =
     rw (c.deref.ensures, c.in_ok-format.ensures.ok, c.as_str-name.ensures.bytes)
     (IsFront-revisions_front c.args.name.now c.as_str-name.ensures.name).1
 
-pub returns : goal.returns
-returns c =
+pub returns-clause-path : goal.returns-clause-path
+returns-clause-path c =
     let cut = rw (c.deref.ensures, c.in_ok-format.ensures.ok, c.as_str-name.ensures.bytes) at c.path.ensures in
     subst (λ parts. IfOk c.path.result (λ p. p ≡ parts)) (IsFront-revisions_front c.args.name.now c.as_str-name.ensures.name).0 cut
