@@ -145,7 +145,7 @@ change_nothing files path file other =
 at_path : (files : Files) (path : List (List ℕ)) (file : Option (List ℕ)) → with_at files path file path ≡ file
 at_path files path file = ap (λ t. cond t file (files path)) (ap is_eq (tied_itself path_total path))
 
-pub linked : (file : Option (List ℕ)) (name digest : List ℕ) (x : Option ℕ) → IsName name → links_to file digest ≡ true → cond (is_name name && links_to file digest) x None ≡ x
+pub linked : {X : Type 0} (file : Option (List ℕ)) (name digest : List ℕ) (x : Option X) → IsName name → links_to file digest ≡ true → cond (is_name name && links_to file digest) x None ≡ x
 linked file name digest x n l = ap (λ b. cond (b && links_to file digest) x None) n ∙ ap (λ b. cond b x None) l
 
 pub sleeps : (files : Files) (name digest bytes : List ℕ) → IsName name → IsDigest digest → files (layer_path name digest) ≡ Some (digest_text digest) → files (data_path digest) ≡ None
@@ -156,4 +156,14 @@ sleeps files name digest bytes n d link gone =
     let kept_link : g (layer_path name digest) ≡ Some (digest_text digest) = elsewhere (is_at (data_path digest) (layer_path name digest)) files (data_path digest) (layer_path name digest) (Some bytes) refl apart ∙ link in (
       linked (files (layer_path name digest)) name digest _ n (links_to-text _ digest d link) ∙ ap (option_map length) gone,
       linked (g (layer_path name digest)) name digest _ n (links_to-text _ digest d kept_link) ∙ ap (option_map length) (at_path files (data_path digest) (Some bytes)),
+    )
+
+pub manifest_sleeps : (files : Files) (name digest bytes : List ℕ) → IsName name → IsDigest digest → files (revision_path name digest) ≡ Some (digest_text digest) → files (data_path digest) ≡ None
+    → (manifest_at files name digest ≡ None) × (manifest_at (with_at files (data_path digest) (Some bytes)) name digest ≡ manifest_in digest bytes)
+manifest_sleeps files name digest bytes n d link gone =
+    let g = with_at files (data_path digest) (Some bytes) in
+    let apart : revision_path name digest ≢ data_path digest = λ e. cc (same_place (Revision name digest) (BlobData digest) (n, d) d e) in
+    let kept_link : g (revision_path name digest) ≡ Some (digest_text digest) = elsewhere (is_at (data_path digest) (revision_path name digest)) files (data_path digest) (revision_path name digest) (Some bytes) refl apart ∙ link in (
+      linked (files (revision_path name digest)) name digest _ n (links_to-text _ digest d link) ∙ ap (option_and_then (manifest_in digest)) gone,
+      linked (g (revision_path name digest)) name digest _ n (links_to-text _ digest d kept_link) ∙ ap (option_and_then (manifest_in digest)) (at_path files (data_path digest) (Some bytes)),
     )

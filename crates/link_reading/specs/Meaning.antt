@@ -1,5 +1,5 @@
 -- What files mean: the manifests, links and tags that the repositories of a registry have by its link files.
-use Rattle.std.specs.Prelude.{◌≡◌, ℕ, Bool, false, ◌&&◌, nat_eq, nat_le, if◌then◌else◌, List, length, Option, Some, None, is_some, option_map, option_and_then}
+use Rattle.std.specs.Prelude.{◌≡◌, ℕ, Bool, false, ◌&&◌, nat_eq, nat_le, if◌then◌else◌, List, length, Option, Some, None, IsSome, is_some, option_map, option_and_then}
 use Rattle.std.specs.Option.{option_map_or}
 use Rattle.std.specs.Cmp.Lexicographic.{pointwise}
 use Rattle.reg_names.specs.Names.{is_name}
@@ -61,16 +61,29 @@ IsLink (TagCurrent name tag) = Unit {0}
 IsLink (TagIndex name tag digest) = Unit {0}
 IsLink place = ⊥
 
--- a link to a blob or to a manifest, or of a tag, through which nothing is meant
+-- a link to a blob or to a manifest through which nothing is meant
 abbrev pub MeansNothing : State → Place → Type 0
 MeansNothing state (Layer name digest) = state.links name digest ≡ None
 MeansNothing state (Revision name digest) = state.manifests name digest ≡ None
-MeansNothing state (TagCurrent name tag) = state.tags name tag ≡ None
 MeansNothing state place = ⊥
 
--- a path is broken where it is that of such a link
-pub record IsBroken (files : Files) (path : List (List ℕ)) : Type 0 where
+-- such a link, or one of a tag through which nothing is meant
+abbrev pub MeansNothingWithTags : State → Place → Type 0
+MeansNothingWithTags state (TagCurrent name tag) = state.tags name tag ≡ None
+MeansNothingWithTags state place = MeansNothing state place
+
+-- a path is that of a place of which this holds, and a file is there
+pub record HasPlace (Holds : Place → Type 0) (files : Files) (path : List (List ℕ)) : Type 0 where
   pub place : Place
   pub is : IsPlace place
   pub at : path ≡ place_path place
-  pub silent : MeansNothing (Means files) place
+  pub there : IsSome (files path)
+  pub holds : Holds place
+
+-- a path is broken where a link to a blob or to a manifest is there, and nothing is meant through it
+abbrev pub IsBroken : Files → List (List ℕ) → Type 0
+IsBroken files path = HasPlace (MeansNothing (Means files)) files path
+
+-- and also where the link of a tag is there, and nothing is meant through it
+abbrev pub IsBrokenWithTags : Files → List (List ℕ) → Type 0
+IsBrokenWithTags files path = HasPlace (MeansNothingWithTags (Means files)) files path

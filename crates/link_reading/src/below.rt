@@ -1,5 +1,6 @@
 //! What lies at a path of a repository.
 ghost use Rattle.std.specs.Prelude.{◌≡◌, IfOk};
+ghost use Rattle.reg_names.specs.Names.{IsName};
 ghost use Rattle.reg_names.specs.Digests.{IsDigest};
 ghost use Rattle.reg_names.specs.Tags.{IsTag};
 ghost use Rattle.link_paths.specs.Places.{layer_path, revision_path, tag_path};
@@ -14,9 +15,10 @@ use std::alloc::Global;
 /// The digest of the blob to which the repository's link at a path is.
 #[tactic(auto, using(crate::proofs::BelowLaws::blob_read, crate::proofs::BelowLaws::blob_unread))]
 pub fn blob_at(alloc: Global, name: &Name, path: &Path) -> Result<Option<Digest>, NoMemory>
-    ensures { IfOk result (ReadsAt IsDigest (layer_path name.now) path.now) }
+    ensures digest { IfOk result (ReadsAt IsDigest (layer_path name.now) path.now) }
+    ensures name { IsName name.now }
 {
-    let _ = name.as_str();
+    let _name = name.as_str();
     match read_path(alloc, path)? {
         Some(place) => Ok(blob_of(name, place)),
         None => Ok(None),
@@ -26,9 +28,10 @@ pub fn blob_at(alloc: Global, name: &Name, path: &Path) -> Result<Option<Digest>
 /// The digest of the manifest to which the repository's link at a path is.
 #[tactic(auto, using(crate::proofs::BelowLaws::revision_read, crate::proofs::BelowLaws::revision_unread))]
 pub fn revision_at(alloc: Global, name: &Name, path: &Path) -> Result<Option<Digest>, NoMemory>
-    ensures { IfOk result (ReadsAt IsDigest (revision_path name.now) path.now) }
+    ensures digest { IfOk result (ReadsAt IsDigest (revision_path name.now) path.now) }
+    ensures name { IsName name.now }
 {
-    let _ = name.as_str();
+    let _name = name.as_str();
     match read_path(alloc, path)? {
         Some(place) => Ok(revision_of(name, place)),
         None => Ok(None),
@@ -38,9 +41,10 @@ pub fn revision_at(alloc: Global, name: &Name, path: &Path) -> Result<Option<Dig
 /// The tag whose link of the repository lies at a path.
 #[tactic(auto, using(crate::proofs::BelowLaws::tag_read, crate::proofs::BelowLaws::tag_unread))]
 pub fn tag_at(alloc: Global, name: &Name, path: &Path) -> Result<Option<Tag>, NoMemory>
-    ensures { IfOk result (ReadsAt IsTag (tag_path name.now) path.now) }
+    ensures tag { IfOk result (ReadsAt IsTag (tag_path name.now) path.now) }
+    ensures name { IsName name.now }
 {
-    let _ = name.as_str();
+    let _name = name.as_str();
     match read_path(alloc, path)? {
         Some(place) => Ok(tag_of(name, place)),
         None => Ok(None),

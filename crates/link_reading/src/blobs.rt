@@ -10,7 +10,8 @@ use link_paths::{data_path, layer_path};
 use reg_names::{Digest, Name, Refused};
 use std::alloc::Global;
 
-/// The size of a blob that a repository links, and `None` exactly where the files do not mean that link.
+/// The size in bytes of a blob that a repository links, and `None` exactly where the files do not mean that link.
+/// `Refused::Failed` is a fault of the depot, `Refused::NoMemory` want of memory.
 pub fn has_layer<D: Depot>(
     alloc: Global,
     depot: &mut D,
@@ -22,7 +23,6 @@ pub fn has_layer<D: Depot>(
     ensures tells { D.tells depot.new ≡ D.tells depot.old }
     ensures cause { HasCause (D.faults depot.old) (D.faults depot.new) (IsErrOf result refusals.Failed) }
 {
-    let _ = name.as_str();
     let at = layer_path(alloc, name, digest)?;
     if !is_linked(alloc, depot, &at, digest)? {
         return Ok(None);

@@ -1,13 +1,14 @@
 //! Laws of what files mean.
 ghost use Rattle.std.specs.Prelude.{◌≡◌, ◌≢◌, ◌↔◌, ℕ, List, length, Option, Some, None, IsSome, IsTrue, option_map};
 ghost use Rattle.reg_names.specs.Names.{IsName};
+ghost use Rattle.reg_names.specs.Tags.{IsTag};
 ghost use Rattle.reg_names.specs.Digests.{IsDigest, digest_text};
 ghost use Rattle.depot_api.specs.Files.{Files, with_at};
-ghost use Rattle.link_paths.specs.Places.{IsPlace, place_path, layer_path, data_path};
+ghost use Rattle.link_paths.specs.Places.{IsPlace, place_path, layer_path, revision_path, tag_path, data_path};
 ghost use Rattle.link_paths.specs.declared.place.Place.{Place};
 ghost use Rattle.reg_entries.specs.declared.document.Document.{Document};
 ghost use Rattle.reg_entries.specs.State.{empty};
-ghost use Rattle.link_reading.specs.Meaning.{Means, links_to, data_at, IsLink};
+ghost use Rattle.link_reading.specs.Meaning.{Means, links_to, manifest_in, data_at, IsLink, IsBroken, IsBrokenWithTags};
 
 /// A link file is read as the link to a digest exactly where it holds the digest's text and nothing more.
 pub fn links_hold_texts()
@@ -38,4 +39,19 @@ pub fn other_files_change_nothing()
 pub fn links_sleep_without_their_data()
     ensures { (files : Files) (name digest bytes : List ℕ) → IsName name → IsDigest digest → files (layer_path name digest) ≡ Some (digest_text digest) → files (data_path digest) ≡ None
         → ((Means files).links name digest ≡ None) × ((Means (with_at files (data_path digest) (Some bytes))).links name digest ≡ Some (length bytes)) }
+{}
+
+/// A link to a manifest means nothing until its data file comes, and then what its bytes are under the digest.
+pub fn manifests_sleep_without_their_data()
+    ensures { (files : Files) (name digest bytes : List ℕ) → IsName name → IsDigest digest → files (revision_path name digest) ≡ Some (digest_text digest) → files (data_path digest) ≡ None
+        → ((Means files).manifests name digest ≡ None) × ((Means (with_at files (data_path digest) (Some bytes))).manifests name digest ≡ manifest_in digest bytes) }
+{}
+
+/// A link is broken exactly where it is there and means nothing. A link of a tag is so only where tags count.
+pub fn broken_links_mean_nothing()
+    ensures layers { (files : Files) (name digest : List ℕ) → IsName name → IsDigest digest → IsBroken files (layer_path name digest) ↔ (IsSome (files (layer_path name digest)) × ((Means files).links name digest ≡ None)) }
+    ensures revisions { (files : Files) (name digest : List ℕ) → IsName name → IsDigest digest → IsBroken files (revision_path name digest) ↔ (IsSome (files (revision_path name digest)) × ((Means files).manifests name digest ≡ None)) }
+    ensures tags { (files : Files) (name tag : List ℕ) → IsName name → IsTag tag → IsBrokenWithTags files (tag_path name tag) ↔ (IsSome (files (tag_path name tag)) × ((Means files).tags name tag ≡ None)) }
+    ensures tags_apart { (files : Files) (name tag : List ℕ) → IsName name → IsTag tag → ¬ IsBroken files (tag_path name tag) }
+    ensures with_tags { (files : Files) (path : List (List ℕ)) → IsBroken files path → IsBrokenWithTags files path }
 {}

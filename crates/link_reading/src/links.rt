@@ -1,5 +1,5 @@
 //! Link files.
-ghost use Rattle.std.specs.Prelude.{◌≡◌, IsTrue, IfOk, IsErrOf, option_and_then};
+ghost use Rattle.std.specs.Prelude.{◌≡◌, ◌≤◌, IsTrue, IfOk, IfSome, IsErrOf, length, option_and_then};
 ghost use Rattle.reg_names.specs.Cause.{HasCause};
 ghost use Rattle.reg_names.specs.Digests.{digest_named};
 ghost use Rattle.reg_names.specs.declared.refused.Refused.TheVariants as refusals;
@@ -56,6 +56,7 @@ pub fn short_file<D: Depot>(
     most: u64,
 ) -> Result<Option<Bytes>, Refused>
     ensures value { IsTrue (D.tells depot.old) → IfOk result (λ bytes. bytes ≡ short most (D.files depot.old at.now)) }
+    ensures most { IfOk result (λ found. IfSome found (λ bytes. length bytes ≤ most)) }
     ensures files { D.files depot.new ≡ D.files depot.old }
     ensures tells { D.tells depot.new ≡ D.tells depot.old }
     ensures cause { HasCause (D.faults depot.old) (D.faults depot.new) (IsErrOf result refusals.Failed) }

@@ -18,7 +18,8 @@ use std::alloc::Global;
 
 /// The tags of a repository in byte order that are greater than `last`, which need not be a tag, and at most `n` of
 /// them. Beside them stands `n` where it is above 0 and more of them follow (OCI Distribution Specification 1.1,
-/// "Listing Tags"). It walks through the links of the repository's tags, from `last` on.
+/// "Listing Tags"). It walks through the links of the repository's tags, from `last` on. `Refused::Failed` is a fault of
+/// the depot, `Refused::NoMemory` want of memory.
 pub fn tags<D: Depot>(
     alloc: Global,
     depot: &mut D,
@@ -31,7 +32,6 @@ pub fn tags<D: Depot>(
     ensures tells { D.tells depot.new ≡ D.tells depot.old }
     ensures cause { HasCause (D.faults depot.old) (D.faults depot.new) (IsErrOf result refusals.Failed) }
 {
-    let _ = name.as_str();
     let mut found = Vec::new(alloc);
     if n == Some(0) {
         return Ok((Tags::from_vec(found), None));
@@ -73,7 +73,6 @@ fn is_full(found: &[Tag], n: Option<u64>) -> bool
 fn path_before(alloc: Global, name: &Name, last: Option<&Text>) -> Result<Option<Path>, NoMemory>
     ensures { IfOk result (LiesBefore name.now (option_map (λ l. l.now) last.entry)) }
 {
-    let _ = name.as_str();
     let Some(last) = last else { return Ok(None) };
     let Some(tag) = Tag::read(alloc, last.as_str())? else {
         return Ok(None);
@@ -96,7 +95,6 @@ fn listed_at<D: Depot>(
     ensures tells { D.tells depot.new ≡ D.tells depot.old }
     ensures cause { HasCause (D.faults depot.old) (D.faults depot.new) (IsErrOf result refusals.Failed) }
 {
-    let _ = name.as_str();
     let Some(tag) = tag_at(alloc, name, path)? else {
         return Ok(None);
     };

@@ -17,6 +17,7 @@ use reg_names::{Digest, Name, Refused};
 use std::alloc::Global;
 
 /// The least digest of a manifest of the repository that lists the child, and `None` exactly where none does.
+/// `Refused::Failed` is a fault of the depot, `Refused::NoMemory` want of memory.
 pub fn listed_by<D: Depot>(
     alloc: Global,
     depot: &mut D,
@@ -28,7 +29,6 @@ pub fn listed_by<D: Depot>(
     ensures tells { D.tells depot.new ≡ D.tells depot.old }
     ensures cause { HasCause (D.faults depot.old) (D.faults depot.new) (IsErrOf result refusals.Failed) }
 {
-    let _ = name.as_str();
     let mut pages = Pages::below(alloc, revisions_front(alloc, name)?);
     let mut after = None;
     for _ in 0..TURNS {
@@ -56,7 +56,6 @@ fn parent_at<D: Depot>(
     ensures tells { D.tells depot.new ≡ D.tells depot.old }
     ensures cause { HasCause (D.faults depot.old) (D.faults depot.new) (IsErrOf result refusals.Failed) }
 {
-    let _ = name.as_str();
     let Some(digest) = revision_at(alloc, name, path)? else {
         return Ok(None);
     };

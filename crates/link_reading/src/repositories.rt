@@ -15,6 +15,7 @@ use reg_names::{Name, Refused};
 use std::alloc::Global;
 
 /// Whether a repository has a manifest or a link to a blob. It walks through its links, up to the first that is one.
+/// `Refused::Failed` is a fault of the depot, `Refused::NoMemory` want of memory.
 pub fn known<D: Depot>(alloc: Global, depot: &mut D, name: &Name) -> Result<bool, Refused>
     ensures value { IsTrue (D.tells depot.old) → IfOk result (Knows (Means (D.files depot.old)) name.now) }
     ensures files { D.files depot.new ≡ D.files depot.old }
@@ -34,7 +35,6 @@ fn has_blobs<D: Depot>(alloc: Global, depot: &mut D, name: &Name) -> Result<bool
     ensures tells { D.tells depot.new ≡ D.tells depot.old }
     ensures cause { HasCause (D.faults depot.old) (D.faults depot.new) (IsErrOf result refusals.Failed) }
 {
-    let _ = name.as_str();
     let mut pages = Pages::below(alloc, layers_front(alloc, name)?);
     let mut after = None;
     for _ in 0..TURNS {
@@ -56,7 +56,6 @@ fn has_manifests<D: Depot>(alloc: Global, depot: &mut D, name: &Name) -> Result<
     ensures tells { D.tells depot.new ≡ D.tells depot.old }
     ensures cause { HasCause (D.faults depot.old) (D.faults depot.new) (IsErrOf result refusals.Failed) }
 {
-    let _ = name.as_str();
     let mut pages = Pages::below(alloc, revisions_front(alloc, name)?);
     let mut after = None;
     for _ in 0..TURNS {
@@ -83,7 +82,6 @@ fn is_blob<D: Depot>(
     ensures tells { D.tells depot.new ≡ D.tells depot.old }
     ensures cause { HasCause (D.faults depot.old) (D.faults depot.new) (IsErrOf result refusals.Failed) }
 {
-    let _ = name.as_str();
     let Some(digest) = blob_at(alloc, name, path)? else {
         return Ok(false);
     };
@@ -103,7 +101,6 @@ fn is_manifest<D: Depot>(
     ensures tells { D.tells depot.new ≡ D.tells depot.old }
     ensures cause { HasCause (D.faults depot.old) (D.faults depot.new) (IsErrOf result refusals.Failed) }
 {
-    let _ = name.as_str();
     let Some(digest) = revision_at(alloc, name, path)? else {
         return Ok(false);
     };

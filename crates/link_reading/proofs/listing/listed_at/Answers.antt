@@ -7,5 +7,5 @@ use Rattle.link_reading.proofs.listing.listed_at.Goals as goal
 
 pub returns-then-not-is_behind-clause-value : goal.returns-then-not-is_behind-clause-value
 returns-then-not-is_behind-clause-value g c = λ told.
-    let at = subst (ReadsAt IsTag (tag_path c.args.name.now) c.args.path.now) c.in-Some.is c.in_ok-tag.ensures in
-    not_behind (g.D.Depot.files c.args.depot.now) c.args.name.now c.in-Some.tag _ c.args.path.now c.as_str.ensures.name at (sym c.if-not-is_behind.ensures)
+    let at = subst (ReadsAt IsTag (tag_path c.args.name.now) c.args.path.now) c.in-Some.is c.in_ok-tag.ensures.tag in
+    not_behind (g.D.Depot.files c.args.depot.now) c.args.name.now c.in-Some.tag _ c.args.path.now c.tag_at.ensures.name at (sym c.if-not-is_behind.ensures)

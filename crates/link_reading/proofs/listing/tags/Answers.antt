@@ -18,7 +18,7 @@ returns-in_default-clause-value g c = λ told.
     let last = option_map (λ t. t.now) c.args.last in
     let s = l.lists told in
     let gives = gives_of _ _ _ _ _ _ _ _ _ _ _ None l.files l.tells l.under c.as_ref.ensures.value c.in_default.is c.in_ok-path.ensures.value told s.stands.next in
-    let ended = lists_all files name last c.as_str.ensures.name c.loop.after (into_iter_items c.loop.pages.left) c.loop.found.items s gives in
+    let ended = lists_all files name last c.tags_front.ensures.name c.loop.after (into_iter_items c.loop.pages.left) c.loop.found.items s gives in
     let whole = lists_whole (Means files) name last c.args.n c.loop.found.items (some_asked c.args.n c.eq.result c.eq.ensures c.if-eq.false) s.chain ended l.room in
     subst (λ ts. IsListing (Means files) name c.args.n last ts None) (sym c.from_vec-in_default.ensures) whole
 
@@ -31,7 +31,7 @@ returns-then-is_full-clause-value g c = λ told.
     let s = l.lists told in
     let gives = gives_of _ _ _ _ _ _ _ _ _ _ _ (Some c.in-Some.path) l.files l.tells l.under c.as_ref.ensures.value c.in-Some.is c.in_ok-path.ensures.value told s.stands.next in
     let here = told_of (λ state found. IsTagAt state name last c.in-Some.path found) _ _ _ _ _ _ (c.next.ensures.files ∙ l.files) (c.next.ensures.tells ∙ l.tells) c.in-Some-2.is c.in_ok-tag.ensures.value told in
-    let next = lists_next files name last c.as_str.ensures.name c.loop.after (into_iter_items c.loop.pages.left) c.loop.found.items s c.in-Some.path (into_iter_items c.next.new.self.left) gives c.in-Some-2.tag here in
+    let next = lists_next files name last c.tags_front.ensures.name c.loop.after (into_iter_items c.loop.pages.left) c.loop.found.items s c.in-Some.path (into_iter_items c.next.new.self.left) gives c.in-Some-2.tag here in
     let full = c.is_full.ensures.0 c.if-is_full.true ∙ ap (λ ts. Some (length ts)) c.deref.ensures.value in
     let cut = lists_cut (Means files) name last c.args.n c.loop.found.items c.in-Some-2.tag (some_asked c.args.n c.eq.result c.eq.ensures c.if-eq.false) s.chain next full in
     subst (λ ts. IsListing (Means files) name c.args.n last ts c.args.n) (sym c.from_vec-then-is_full.ensures) cut
@@ -61,11 +61,11 @@ loop-preserved g c =
             | in-Some-2+else-is_full+in_ok-add w ↦
                 subst (λ v. HasListed files name last (Some c.in-Some.path) (into_iter_items c.next.new.self.left) v.items) (sym w.found-is)
                 (subst (HasListed files name last (Some c.in-Some.path) (into_iter_items c.next.new.self.left)) (sym w.in_ok-add.ensures)
-                (lists_more files name last c.as_str.ensures.name c.loop.after (into_iter_items c.loop.pages.left) c.loop.found.items s c.in-Some.path (into_iter_items c.next.new.self.left) gives w.in-Some-2.tag
+                (lists_more files name last c.tags_front.ensures.name c.loop.after (into_iter_items c.loop.pages.left) c.loop.found.items s c.in-Some.path (into_iter_items c.next.new.self.left) gives w.in-Some-2.tag
                 (told_of (λ state t. IsTagAt state name last c.in-Some.path t) _ _ _ _ _ _ (c.next.ensures.files ∙ l.files) (c.next.ensures.tells ∙ l.tells) w.in-Some-2.is c.in_ok-tag.ensures.value told)))
             | in_default-2 w ↦
                 subst (λ v. HasListed files name last (Some c.in-Some.path) (into_iter_items c.next.new.self.left) v.items) (sym w.found-is)
-                (lists_same files name last c.as_str.ensures.name c.loop.after (into_iter_items c.loop.pages.left) c.loop.found.items s c.in-Some.path (into_iter_items c.next.new.self.left) gives
+                (lists_same files name last c.tags_front.ensures.name c.loop.after (into_iter_items c.loop.pages.left) c.loop.found.items s c.in-Some.path (into_iter_items c.next.new.self.left) gives
                 (told_of (λ state t. IsTagAt state name last c.in-Some.path t) _ _ _ _ _ _ (c.next.ensures.files ∙ l.files) (c.next.ensures.tells ∙ l.tells) w.in_default-2.is c.in_ok-tag.ensures.value told))
           ];
     }

@@ -7,14 +7,14 @@ pub returns-in_default-clause-value : goal.returns-in_default-clause-value
 returns-in_default-clause-value g c = λ told.
     let l = c.loop.invariant in
     let gives = gives_of _ _ _ _ _ _ _ _ _ _ _ None l.files l.tells l.under c.as_ref.ensures.value c.in_default.is c.in_ok-path.ensures.value told (l.stands told).next in
-    no_parent _ c.args.name.now c.args.child.now _ _ c.as_str.ensures.name (l.stands told) gives
+    no_parent _ c.args.name.now c.args.child.now _ _ c.revisions_front.ensures.name (l.stands told) gives
 
 pub returns-in-Some-2-clause-value : goal.returns-in-Some-2-clause-value
 returns-in-Some-2-clause-value g c = λ told.
     let l = c.loop.invariant in
     let gives = gives_of _ _ _ _ _ _ _ _ _ _ _ (Some c.in-Some.path) l.files l.tells l.under c.as_ref.ensures.value c.in-Some.is c.in_ok-path.ensures.value told (l.stands told).next in
     let here = told_of (λ state found. IsParentAt state c.args.name.now c.args.child.now c.in-Some.path found) _ _ _ _ _ _ (c.next.ensures.files ∙ l.files) (c.next.ensures.tells ∙ l.tells) c.in-Some-2.is c.in_ok-parent.ensures.value told in
-    least_parent _ c.args.name.now c.args.child.now c.in-Some-2.parent _ _ _ _ c.as_str.ensures.name (l.stands told) gives here
+    least_parent _ c.args.name.now c.args.child.now c.in-Some-2.parent _ _ _ _ c.revisions_front.ensures.name (l.stands told) gives here
 
 pub loop-preserved : goal.loop-preserved
 loop-preserved g c =

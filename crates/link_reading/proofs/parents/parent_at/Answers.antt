@@ -9,5 +9,5 @@ use Rattle.link_reading.proofs.parents.parent_at.Goals as goal
 
 pub returns-clause-value : goal.returns-clause-value
 returns-clause-value g c = λ told.
-    let at = subst (ReadsAt IsDigest (revision_path c.args.name.now) c.args.path.now) c.in-Some.is c.in_ok-digest.ensures in
-    subst (IsParentAt (Means (g.D.Depot.files c.args.depot.now)) c.args.name.now c.args.child.now c.args.path.now) (sym c.then_some.ensures) (parent_here (g.D.Depot.files c.args.depot.now) c.args.name.now c.args.child.now c.in-Some.digest c.args.path.now c.in_ok-found.found c.lists.result c.as_str.ensures.name at (c.in_ok-found.ensures.value told) c.lists.ensures)
+    let at = subst (ReadsAt IsDigest (revision_path c.args.name.now) c.args.path.now) c.in-Some.is c.in_ok-digest.ensures.digest in
+    subst (IsParentAt (Means (g.D.Depot.files c.args.depot.now)) c.args.name.now c.args.child.now c.args.path.now) (sym c.then_some.ensures) (parent_here (g.D.Depot.files c.args.depot.now) c.args.name.now c.args.child.now c.in-Some.digest c.args.path.now c.in_ok-found.found c.lists.result c.revision_at.ensures.name at (c.in_ok-found.ensures.value told) c.lists.ensures)

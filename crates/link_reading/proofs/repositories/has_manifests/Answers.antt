@@ -7,7 +7,7 @@ pub returns-in_default-clause-value : goal.returns-in_default-clause-value
 returns-in_default-clause-value g c = λ told.
     let l = c.loop.invariant in
     let gives = gives_of _ _ _ _ _ _ _ _ _ _ _ None l.files l.tells l.under c.as_ref.ensures.value c.in_default.is c.in_ok-path.ensures.value told (l.stands told).next in
-    no_manifests _ c.args.name.now _ _ c.as_str.ensures.name (l.stands told) gives
+    no_manifests _ c.args.name.now _ _ c.revisions_front.ensures.name (l.stands told) gives
 
 pub loop-preserved : goal.loop-preserved
 loop-preserved g c =

@@ -9,5 +9,5 @@ use Rattle.link_reading.proofs.repositories.is_blob.Goals as goal
 
 pub returns-clause-value : goal.returns-clause-value
 returns-clause-value g c = λ told.
-    let at = subst (ReadsAt IsDigest (layer_path c.args.name.now) c.args.path.now) c.in-Some.is c.in_ok-digest.ensures in
-    subst (IsBlobAt (Means (g.D.Depot.files c.args.depot.now)) c.args.name.now c.args.path.now) (sym c.is_some.ensures) (blob_here (g.D.Depot.files c.args.depot.now) c.args.name.now c.in-Some.digest c.args.path.now c.in_ok-size.size c.as_str.ensures.name at (c.in_ok-size.ensures.value told))
+    let at = subst (ReadsAt IsDigest (layer_path c.args.name.now) c.args.path.now) c.in-Some.is c.in_ok-digest.ensures.digest in
+    subst (IsBlobAt (Means (g.D.Depot.files c.args.depot.now)) c.args.name.now c.args.path.now) (sym c.is_some.ensures) (blob_here (g.D.Depot.files c.args.depot.now) c.args.name.now c.in-Some.digest c.args.path.now c.in_ok-size.size c.blob_at.ensures.name at (c.in_ok-size.ensures.value told))

@@ -9,5 +9,5 @@ use Rattle.link_reading.proofs.repositories.is_manifest.Goals as goal
 
 pub returns-clause-value : goal.returns-clause-value
 returns-clause-value g c = λ told.
-    let at = subst (ReadsAt IsDigest (revision_path c.args.name.now) c.args.path.now) c.in-Some.is c.in_ok-digest.ensures in
-    subst (IsManifestAt (Means (g.D.Depot.files c.args.depot.now)) c.args.name.now c.args.path.now) (sym c.is_some.ensures) (manifest_here (g.D.Depot.files c.args.depot.now) c.args.name.now c.in-Some.digest c.args.path.now c.in_ok-found.found c.as_str.ensures.name at (c.in_ok-found.ensures.value told))
+    let at = subst (ReadsAt IsDigest (revision_path c.args.name.now) c.args.path.now) c.in-Some.is c.in_ok-digest.ensures.digest in
+    subst (IsManifestAt (Means (g.D.Depot.files c.args.depot.now)) c.args.name.now c.args.path.now) (sym c.is_some.ensures) (manifest_here (g.D.Depot.files c.args.depot.now) c.args.name.now c.in-Some.digest c.args.path.now c.in_ok-found.found c.revision_at.ensures.name at (c.in_ok-found.ensures.value told))
