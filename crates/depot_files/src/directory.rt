@@ -19,13 +19,13 @@ use std::rt::Files;
 #[derive(Drop)]
 pub struct FileDepot<R> {
     root: Root<R>,
-    /// Behind the last page, whose walk a next page may go on with. What changes a file begins it anew.
+    /// Behind the last page, whose walk a next page may go on with. A page that is not full has ended its walk.
     walk: Option<Walk>,
     faults: u64,
 }
 
 impl<R: Files + AllocGlobal> FileDepot<R> {
-    /// The depot of a directory, which must be there.
+    /// The depot of a directory. What is none, or is not there, is refused.
     pub fn open(rt: R, root: &str) -> io::Result<FileDepot<R>>
     where
         R: Drop,
@@ -138,7 +138,8 @@ impl<R: Files + AllocGlobal + Clone + Drop> FileDepot<R> {
         }
     }
 
-    // The next page of the walk that gave the last one, where it is asked for, and else of a new walk.
+    // The next page of the walk that gave the last one, where it is asked for, and else of a new walk. A walk that has
+    // ended, or that met a fault, is let go with all that it held.
     fn page_after(
         &mut self,
         alloc: Global,
@@ -155,7 +156,9 @@ impl<R: Files + AllocGlobal + Clone + Drop> FileDepot<R> {
             _ => Walk::begin(alloc, &self.root, under, after)?,
         };
         let page = walk.page(alloc, &self.root, under, after, most)?;
-        self.walk = Some(walk);
+        if page.len() == most {
+            self.walk = Some(walk);
+        }
         Ok(page)
     }
 }

@@ -5,14 +5,14 @@ use crate::unread::{Unread, if_there};
 use std::alloc::Global;
 use std::fs::{self, Metadata, OpenFile};
 use std::io::{self, ErrorKind};
-use std::path::{AsPath, PathBuf};
+use std::path::{AsPath, Path, PathBuf};
 use std::rt::Files;
 
 /// The length of the longest file of a depot.
 const LONGEST: u64 = 1 << 62;
 
-/// A directory, and the system that has it. Paths are relative to the directory. Nothing is found at a path that a
-/// symbolic link leads out of the directory: that is a fault.
+/// A directory, and the system that has it. Paths are relative to the directory. A path on which a symbolic link leads
+/// nowhere, or out of the directory, is a fault.
 #[derive(Drop)]
 pub struct Root<R> {
     rt: R,
@@ -37,12 +37,15 @@ pub struct Opened<F> {
 }
 
 impl<R: Files + AllocGlobal> Root<R> {
-    /// The root at a path of the system, where a directory must lie.
+    /// The root at a path of the system. What is no directory is refused with `NotADirectory`.
     pub fn open(rt: R, path: &str) -> io::Result<Root<R>>
     where
         R: Drop,
     {
         let path = fs::canonicalize(&rt, path)?;
+        if !fs::metadata(&rt, path.path_text())?.is_dir() {
+            return Err(io::Error::from(ErrorKind::NotADirectory));
+        }
         let path = String::from_str(rt.alloc(), path.path_text())?;
         Ok(Root { rt, path })
     }
@@ -71,11 +74,12 @@ impl<R: Files + AllocGlobal> Root<R> {
         }
     }
 
-    /// What lies at a path in a folder that lies below the root.
+    /// What lies at a path in a folder that lies below the root. A symbolic link is what it leads to, where that is no
+    /// folder, and else a fault.
     pub fn entry(&self, alloc: Global, path: &str) -> Result<Option<Entry>, Unread> {
         let asked = self.system_path(alloc, path)?;
         match if_there(fs::symlink_metadata(&self.rt, asked.as_str()))? {
-            Some(link) if link.is_symlink() => Ok(self.metadata(alloc, path)?.map(entry_of)),
+            Some(link) if link.is_symlink() => self.linked(alloc, path),
             found => Ok(found.map(entry_of)),
         }
     }
@@ -105,6 +109,14 @@ impl<R: Files + AllocGlobal> Root<R> {
         Ok(names)
     }
 
+    // What a symbolic link leads to. A walk through linked folders may have no end, so a folder is a fault.
+    fn linked(&self, alloc: Global, path: &str) -> Result<Option<Entry>, Unread> {
+        match self.metadata(alloc, path)?.map(entry_of) {
+            Some(Entry::Folder) => Err(Unread::Fault),
+            found => Ok(found),
+        }
+    }
+
     // The system's path of the file at a path.
     fn file(&self, alloc: Global, path: &str) -> Result<Option<PathBuf>, Unread> {
         let Some(found) = self.resolved(alloc, path)? else {
@@ -126,8 +138,32 @@ impl<R: Files + AllocGlobal> Root<R> {
     // The system's path of what lies at a path, with no symbolic link in it.
     fn resolved(&self, alloc: Global, path: &str) -> Result<Option<PathBuf>, Unread> {
         let asked = self.system_path(alloc, path)?;
-        match if_there(fs::canonicalize(&self.rt, asked.as_str()))? {
-            Some(found) if is_below(self.path.as_str(), found.path_text()) => Ok(Some(found)),
+        let found = self.followed(asked.as_str())?;
+        if found.is_none() {
+            self.expect_absent(alloc, path)?;
+        }
+        Ok(found)
+    }
+
+    // Where nothing was found at a path: a fault, but where the longest front of it at which something lies is within
+    // the root. A link that leads nowhere is such a front.
+    fn expect_absent(&self, alloc: Global, path: &str) -> Result<(), Unread> {
+        for front in Path::new(path).ancestors() {
+            let asked = self.system_path(alloc, front.as_str())?;
+            if if_there(fs::symlink_metadata(&self.rt, asked.as_str()))?.is_some() {
+                return match self.followed(asked.as_str())? {
+                    Some(_) => Ok(()),
+                    None => Err(Unread::Fault),
+                };
+            }
+        }
+        Err(Unread::Fault)
+    }
+
+    // Where all symbolic links lead on a path of the system. Out of the root is a fault.
+    fn followed(&self, asked: &str) -> Result<Option<PathBuf>, Unread> {
+        match if_there(fs::canonicalize(&self.rt, asked))? {
+            Some(found) if is_within(self.path.as_str(), found.path_text()) => Ok(Some(found)),
             Some(_) => Err(Unread::Fault),
             None => Ok(None),
         }
@@ -160,10 +196,10 @@ fn length_of(file: &Metadata) -> Result<u64, Unread>
     }
 }
 
-// Whether a path without symbolic links lies below a root.
-fn is_below(root: &str, path: &str) -> bool {
+// Whether a path without symbolic links is that of a root, or lies below it.
+fn is_within(root: &str, path: &str) -> bool {
     match path.strip_prefix(root) {
-        Some(rest) => rest.starts_with('/') || root.ends_with('/'),
+        Some(rest) => rest.is_empty() || rest.starts_with('/') || root.ends_with('/'),
         None => false,
     }
 }

@@ -1,4 +1,8 @@
 //! Why nothing was read.
+ghost use Rattle.std.specs.Prelude.{◌≡◌, ◌↔◌, Ok, Some, None, IfOk, IfErr};
+ghost use Rattle.std.specs.IoError.{error_kind};
+ghost use Rattle.depot_files.specs.Absence.{IsAbsent};
+
 use reg_names::NoMemory;
 use std::alloc::{AllocError, AllocFailed};
 use std::io::{self, ErrorKind};
@@ -11,7 +15,10 @@ pub enum Unread {
 }
 
 /// What the system gave, and `None` where nothing lies at the path that it was asked for.
-pub fn if_there<T>(given: io::Result<T>) -> Result<Option<T>, Unread> {
+pub fn if_there<T>(given: io::Result<T>) -> Result<Option<T>, Unread>
+    ensures value { IfOk given (λ value. result ≡ Ok (Some value)) }
+    ensures absent { IfErr given (λ error. (result ≡ Ok None) ↔ IsAbsent (error_kind error)) }
+{
     match given {
         Ok(value) => Ok(Some(value)),
         Err(error) => match error.kind() {
@@ -22,6 +29,13 @@ pub fn if_there<T>(given: io::Result<T>) -> Result<Option<T>, Unread> {
 }
 
 impl From<io::Error> for Unread {
+    ghost use Rattle.std.specs.Prelude.{◌≡◌, ◌↔◌};
+    ghost use Rattle.std.specs.IoError.{error_kind};
+    ghost use Rattle.std.specs.declared.io.ErrorKind.TheVariants as kinds;
+    ghost use Rattle.depot_files.specs.declared.unread.Unread.TheVariants as unread;
+
+    ghost from_gives = { λ error told. (told ≡ unread.NoMemory) ↔ (error_kind error ≡ kinds.OutOfMemory) };
+
     fn from(error: io::Error) -> Unread {
         match error.kind() {
             ErrorKind::OutOfMemory => Unread::NoMemory,
@@ -31,18 +45,33 @@ impl From<io::Error> for Unread {
 }
 
 impl From<NoMemory> for Unread {
+    ghost use Rattle.std.specs.Prelude.{◌≡◌};
+    ghost use Rattle.depot_files.specs.declared.unread.Unread.TheVariants as unread;
+
+    ghost from_gives = { λ _ told. told ≡ unread.NoMemory };
+
     fn from(_: NoMemory) -> Unread {
         Unread::NoMemory
     }
 }
 
 impl From<AllocError> for Unread {
+    ghost use Rattle.std.specs.Prelude.{◌≡◌};
+    ghost use Rattle.depot_files.specs.declared.unread.Unread.TheVariants as unread;
+
+    ghost from_gives = { λ _ told. told ≡ unread.NoMemory };
+
     fn from(_: AllocError) -> Unread {
         Unread::NoMemory
     }
 }
 
 impl<T: Drop> From<AllocFailed<T>> for Unread {
+    ghost use Rattle.std.specs.Prelude.{◌≡◌};
+    ghost use Rattle.depot_files.specs.declared.unread.Unread.TheVariants as unread;
+
+    ghost from_gives = { λ _ told. told ≡ unread.NoMemory };
+
     fn from(_: AllocFailed<T>) -> Unread {
         Unread::NoMemory
     }

@@ -6,7 +6,7 @@ use crate::root::{Entry, Root};
 use crate::unread::Unread;
 use depot_api::{Part, Path};
 use reg_names::NoMemory;
-use std::alloc::Global;
+use std::alloc::{AllocError, Global};
 use std::rt::Files;
 
 /// The most files and folders that one page looks at. No disk holds as many, but no clause can say so; such a page
@@ -14,7 +14,7 @@ use std::rt::Files;
 const MOST_TURNS: u64 = 1 << 62;
 
 /// The files that begin with a path and come after another, in the order of their paths. A folder is listed once,
-/// when the walk comes to it, and its names are held until it has gone through them.
+/// when the walk comes to it, and its names are held until it has gone through them. No folder stays open.
 ///
 /// What is neither a file nor a folder is passed over, and so are names that are no part of a path.
 #[derive(Drop)]
@@ -22,8 +22,17 @@ pub struct Walk {
     under: Path,
     /// The file that was given last, or the path behind which the walk began.
     after: Option<Path>,
-    /// The files and folders that come next, the first of them at the end.
-    ahead: Vec<String>,
+    /// What comes next, in the innermost folder first, which stands at the end.
+    ahead: Vec<Ahead>,
+}
+
+/// What is still to come of a folder.
+#[derive(Drop)]
+struct Ahead {
+    /// The path of the folder, and nothing for the root itself.
+    folder: String,
+    /// The names in it, the next one at the end.
+    names: Vec<String>,
 }
 
 impl Walk {
@@ -37,7 +46,7 @@ impl Walk {
         let mut ahead = Vec::new(alloc);
         let text = text_of(alloc, under)?;
         if comes_after(under, after) && root.has(alloc, text.as_str())? {
-            ahead.push(text)?;
+            ahead.push(Ahead::of_path(alloc, text)?)?;
         }
         Ok(Walk {
             under: under.copy(alloc)?,
@@ -69,8 +78,12 @@ impl Walk {
             if page.len() == most {
                 return Ok(page);
             }
-            let Some(next) = self.ahead.pop() else {
+            let Some(folder) = self.ahead.last_mut() else {
                 return Ok(page);
+            };
+            let Some(next) = folder.next(alloc)? else {
+                let _ = self.ahead.pop();
+                continue;
             };
             let Some(file) = self.visit(alloc, root, next.as_str())? else {
                 continue;
@@ -116,31 +129,51 @@ impl Walk {
     ) -> Result<(), Unread> {
         let names = root.names(alloc, text)?;
         let first = first_name(self.after.as_ref(), folder);
-        put_ahead(alloc, &mut self.ahead, text, names, first)
+        self.ahead
+            .push(Ahead::of_folder(alloc, text, names, first)?)?;
+        Ok(())
+    }
+}
+
+impl Ahead {
+    // What lies at one path alone.
+    fn of_path(alloc: Global, path: String) -> Result<Ahead, AllocError> {
+        let mut names = Vec::new(alloc);
+        names.push(path)?;
+        Ok(Ahead {
+            folder: String::new(alloc),
+            names,
+        })
+    }
+
+    // The names of a folder, from the first on, in the order of paths.
+    fn of_folder(
+        alloc: Global,
+        folder: &str,
+        mut names: Vec<String>,
+        first: Option<&Part>,
+    ) -> Result<Ahead, AllocError> {
+        names.retain(|name| first.is_none_or(|first| first.as_str() <= name.as_str()));
+        names.sort_unstable_by(|a, b| b.cmp(a));
+        Ok(Ahead {
+            folder: String::from_str(alloc, folder)?,
+            names,
+        })
+    }
+
+    // The path of what comes next.
+    fn next(&mut self, alloc: Global) -> Result<Option<String>, AllocError> {
+        match self.names.pop() {
+            Some(name) if self.folder.is_empty() => Ok(Some(name)),
+            Some(name) => Ok(Some(format!(in alloc; "{}/{name}", self.folder)?)),
+            None => Ok(None),
+        }
     }
 }
 
 // The name at which a walk goes on in a folder whose front it has gone through.
 fn first_name<'a>(after: Option<&'a Path>, folder: &Path) -> Option<&'a Part> {
     after?.parts().strip_prefix(folder.parts())?.first()
-}
-
-// Puts the names of a folder before all else, from the first on.
-fn put_ahead(
-    alloc: Global,
-    ahead: &mut Vec<String>,
-    folder: &str,
-    mut names: Vec<String>,
-    first: Option<&Part>,
-) -> Result<(), Unread> {
-    names.sort_unstable_by(|a, b| b.cmp(a));
-    for name in names {
-        let name = name.as_str();
-        if first.is_none_or(|first| first.as_str() <= name) {
-            ahead.push(format!(in alloc; "{folder}/{name}")?)?;
-        }
-    }
-    Ok(())
 }
 
 // Whether a file is one of those that begin with `under` and come after `after`.
