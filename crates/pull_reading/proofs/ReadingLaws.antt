@@ -1,12 +1,13 @@
 -- What the front of an input tells of the input.
 use Rattle.std.proofs.Common.{◌≡◌, ◌≢◌, ℕ, false, ◌==◌, List, [], ◌∷◌, ◌++◌, length, take, drop, Option, Some, None, refl, sym, ap, ◌∙◌, append_assoc, append-nil, length-append, take-append-drop, arith, inl, inr}
 use Rattle.std.specs.Prelude.{IsSome, ◌⊎◌, MatchOption}
+use Rattle.std.specs.Io.KnownBytes.{IsAtEnd}
 use Rattle.std.proofs.lemmas.List.{take_at, nil_from_length}
 use Rattle.pull_reading.specs.declared.ask.Ask.{Ask}
 use Rattle.pull_reading.specs.declared.reading.Asked.{Asked}
 use Rattle.pull_reading.specs.declared.reading.Asked.TheVariants.{Pull, Nothing, Cut, NoRequest}
 use Rattle.pull_reading.specs.Requests.{IsRequest, BeginsWith, IsCut, IsNoRequest, Reads}
-use Rattle.pull_reading.specs.Fronts.{head_end, ReadsFront}
+use Rattle.pull_reading.specs.Fronts.{head_end, ReadsFront, EndsInput}
 use Rattle.pull_reading.specs.Parsing.{FindsRequest}
 use Rattle.pull_reading.specs.Unfinished.{IsUnfinished}
 use Rattle.pull_reading.proofs.CutLaws.{Meets, inside, beyond, meets}
@@ -101,9 +102,15 @@ nil_back : (a b : List ℕ) → a ++ b ≡ [] → b ≡ []
 nil_back [] b e = e
 nil_back (x ∷ a) b e = cc e
 
+-- a front that has no blank line and does not fill the room is all of the input
+empty_is_all : (front : List ℕ) (IsAll : Type 0) → IsSome (head_end front) ⊎ ((length front ≡ 697) ⊎ IsAll) → front ≡ [] → IsAll
+empty_is_all front IsAll (inl ended) e = cc (rw e at ended)
+empty_is_all front IsAll (inr (inl full)) e = cc (sym full ∙ ap length e)
+empty_is_all front IsAll (inr (inr over)) e = over
+
 -- a cut front is all of the input
-pub all_of_it : (front more : List ℕ) → IsSome (head_end front) ⊎ ((length front ≡ 697) ⊎ (more ≡ [])) → IsCut front → more ≡ []
-all_of_it front more decides c = elim decides [
+cut_is_all : (front : List ℕ) (IsAll : Type 0) → IsSome (head_end front) ⊎ ((length front ≡ 697) ⊎ IsAll) → IsCut front → IsAll
+cut_is_all front IsAll decides c = elim decides [
   | inl ended ↦ let some = some_of (head_end front) ended in absurd (c.more (nothing_behind front c.rest some.0 c.ask some.1 c.request))
   | inr other ↦ elim other [
     | inl full ↦ absurd (c.more (nil_from_length c.rest (omega (arith, full, request_short (front ++ c.rest) c.ask c.request, length-append front c.rest))))
@@ -129,13 +136,8 @@ no_request_more front more n = record {
 
 reads_more : (front more : List ℕ) (asked : Asked) → IsSome (head_end front) ⊎ ((length front ≡ 697) ⊎ (more ≡ [])) → Reads front asked → Reads (front ++ more) asked
 reads_more front more (Pull ask) decides b = record { head = b.head; rest = b.rest ++ more; request = b.request; split = ap (λ t. t ++ more) b.split ∙ append_assoc b.head b.rest more }
-reads_more front more Nothing decides e = rw e (rest_of decides)
-  where
-    rest_of : IsSome (head_end front) ⊎ ((length front ≡ 697) ⊎ (more ≡ [])) → more ≡ []
-    rest_of (inl ended) = cc (rw e at ended)
-    rest_of (inr (inl full)) = cc (sym full ∙ ap length e)
-    rest_of (inr (inr over)) = over
-reads_more front more Cut decides c = rw (all_of_it front more decides c, append-nil front) c
+reads_more front more Nothing decides e = rw e (empty_is_all front (more ≡ []) decides e)
+reads_more front more Cut decides c = rw (cut_is_all front (more ≡ []) decides c, append-nil front) c
 reads_more front more NoRequest decides n = no_request_more front more n
 
 -- what was read of an input tells what the input asks for
@@ -143,3 +145,10 @@ pub reads_input : (old new : Option (List ℕ)) (front : List ℕ) (asked : Aske
 reads_input None new front asked h r = tt
 reads_input (Some input) None front asked h r = absurd h.consumed
 reads_input (Some input) (Some more) front asked h r = rw h.consumed (reads_more front more asked h.decides r)
+
+-- and that the input ended, where it is empty or cut
+pub ends_input : (old new : Option (List ℕ)) (front : List ℕ) (asked : Asked) → ReadsFront 697 old new front → Reads front asked → EndsInput new asked
+ends_input old new front (Pull ask) h r = tt
+ends_input old new front Nothing h r = empty_is_all front (IsAtEnd new) h.decides r
+ends_input old new front Cut h r = cut_is_all front (IsAtEnd new) h.decides r
+ends_input old new front NoRequest h r = tt

@@ -2,6 +2,8 @@
 use Rattle.std.specs.Prelude.{◌≡◌, ℕ, suc, ◌⊎◌, nat_eq, if◌then◌else◌, List, [], ◌∷◌, length, Option, Some, None, option_map, IsSome}
 use Rattle.std.specs.List.{starts_with}
 use Rattle.std.specs.Io.KnownBytes.{Consumes, IsAtEnd}
+use Rattle.pull_reading.specs.declared.reading.Asked.{Asked}
+use Rattle.pull_reading.specs.declared.reading.Asked.TheVariants.{Nothing, Cut}
 
 -- a line end, and a line with nothing in it
 abbrev pub blank_line : List ℕ
@@ -16,3 +18,9 @@ head_end (b ∷ bs) = if starts_with nat_eq (b ∷ bs) blank_line then Some 3 el
 pub record ReadsFront (room : ℕ) (old new : Option (List ℕ)) (front : List ℕ) : Type 0 where
   pub consumed : Consumes old new front
   pub decides : IsSome (head_end front) ⊎ ((length front ≡ room) ⊎ IsAtEnd new)
+
+-- an input that asks for nothing since it is empty or cut was read to its end
+abbrev pub EndsInput : Option (List ℕ) → Asked → Type 0
+EndsInput left Nothing = IsAtEnd left
+EndsInput left Cut = IsAtEnd left
+EndsInput left asked = Unit {0}

@@ -4,7 +4,7 @@ ghost use Rattle.std.specs.Io.KnownBytes.{Consumes, IsAtEnd};
 ghost use Rattle.reg_names.specs.Cause.{HasCause};
 ghost use Rattle.depot_api.specs.Streams.{Gives};
 ghost use Rattle.pull_reading.specs.Requests.{Reads};
-ghost use Rattle.pull_reading.specs.Fronts.{ReadsFront};
+ghost use Rattle.pull_reading.specs.Fronts.{ReadsFront, EndsInput};
 ghost use Rattle.pull_reading.specs.declared.reading.Unread.TheVariants as unread;
 
 use crate::Ask;
@@ -62,6 +62,7 @@ impl From<NoMemory> for Unread {
 /// Reads the front of the input, as far as a request may reach, and tells what it asks for.
 pub fn read<S: Source>(alloc: Global, input: &mut S) -> Result<Asked, Unread>
     ensures asked { IfOk result (λ asked. MatchOption (S.left input.old) (Unit {0}) (λ bytes. Reads bytes asked)) }
+    ensures ended { IfOk result (EndsInput (S.left input.new)) }
     ensures reach { S.given input.new ≤ S.given input.old + 697 }
     ensures cause { HasCause (S.faults input.old) (S.faults input.new) (IsErrOf result unread.SourceFault) }
 {

@@ -176,36 +176,46 @@ fn with_many(
     format!(in alloc; "{front}{many}{rest}")
 }
 
-#[test]
-fn names_tags_and_hosts_have_their_limits(rt: HostRuntime) -> Result<(), Fail> {
-    let alloc = rt.alloc();
-    for (front, most, rest, asked, times, of) in [
-        (
+// A byte `0` of a name, a tag or a host that stands as often as it may, in the request and in what this asks for.
+#[derive(Clone, Copy)]
+struct Limit {
+    request: (&'static str, usize, &'static str),
+    asked: (&'static str, usize, &'static str),
+}
+
+const LIMITS: [Limit; 3] = [
+    Limit {
+        request: (
             "GET /v2/",
             255,
             "/tags/list HTTP/1.1\r\nHost: r\r\nConnection: close\r\n\r\n",
-            "tags of ",
-            255,
-            "",
         ),
-        (
+        asked: ("tags of ", 255, ""),
+    },
+    Limit {
+        request: (
             "GET /v2/a/manifests/",
             128,
             " HTTP/1.1\r\nHost: r\r\nConnection: close\r\n\r\n",
-            "manifest ",
-            128,
-            " of a",
         ),
-        (
+        asked: ("manifest ", 128, " of a"),
+    },
+    Limit {
+        request: (
             "GET /v2/a/tags/list HTTP/1.1\r\nHost: ",
             255,
             "\r\nConnection: close\r\n\r\n",
-            "tags of a",
-            0,
-            "",
         ),
-    ] {
-        let asked = with_many(alloc, asked, "0", times, of)?;
+        asked: ("tags of a", 0, ""),
+    },
+];
+
+#[test]
+fn names_tags_and_hosts_have_their_limits(rt: HostRuntime) -> Result<(), Fail> {
+    let alloc = rt.alloc();
+    for Limit { request, asked } in LIMITS {
+        let (front, most, rest) = request;
+        let asked = with_many(alloc, asked.0, "0", asked.1, asked.2)?;
         let input = with_many(alloc, front, "0", most, rest)?;
         assert!(rt;
             asks(alloc, input.as_bytes(), &[], &[], asked.as_str())?,
@@ -220,38 +230,41 @@ fn names_tags_and_hosts_have_their_limits(rt: HostRuntime) -> Result<(), Fail> {
     Ok(())
 }
 
+// Fronts of requests, with so many times a byte `0` in them.
+const FRONTS: [(&str, usize, &str, &str); 17] = [
+    ("GET /v2/", 255, "", "cut"),
+    ("GET /v2/", 255, "/t", "cut"),
+    ("GET /v2/", 256, "", "no request"),
+    ("GET /v2/", 253, "_", "cut"),
+    ("GET /v2/", 254, "_", "no request"),
+    ("GET /v2/A/manifests/", 1, "", "no request"),
+    ("GET /v2/a/manifests/A", 127, "", "cut"),
+    ("GET /v2/a/manifests/A", 128, "", "no request"),
+    ("GET /v2/a/manifests/sha256:", 64, "", "cut"),
+    ("GET /v2/a/manifests/sha256:", 65, "", "no request"),
+    ("GET /v2/a/blobs/sha256:", 64, " ", "cut"),
+    ("GET /v2/a/blobs/sha256:", 63, " ", "no request"),
+    ("GET /v2/a/blobs/sha256:", 63, "A", "no request"),
+    ("GET /v2/a/tags/list HTTP/1.1\r\nHost: ", 255, "", "cut"),
+    ("GET /v2/a/tags/list HTTP/1.1\r\nHost: ", 255, "\r", "cut"),
+    (
+        "GET /v2/a/tags/list HTTP/1.1\r\nHost: ",
+        256,
+        "",
+        "no request",
+    ),
+    (
+        "GET /v2/a/tags/list HTTP/1.1\r\nHost: ",
+        9_999,
+        "",
+        "no request",
+    ),
+];
+
 #[test]
 fn fronts_have_the_same_limits(rt: HostRuntime) -> Result<(), Fail> {
     let alloc = rt.alloc();
-    for (front, times, rest, asked) in [
-        ("GET /v2/", 255, "", "cut"),
-        ("GET /v2/", 255, "/t", "cut"),
-        ("GET /v2/", 256, "", "no request"),
-        ("GET /v2/", 253, "_", "cut"),
-        ("GET /v2/", 254, "_", "no request"),
-        ("GET /v2/A/manifests/", 1, "", "no request"),
-        ("GET /v2/a/manifests/A", 127, "", "cut"),
-        ("GET /v2/a/manifests/A", 128, "", "no request"),
-        ("GET /v2/a/manifests/sha256:", 64, "", "cut"),
-        ("GET /v2/a/manifests/sha256:", 65, "", "no request"),
-        ("GET /v2/a/blobs/sha256:", 64, " ", "cut"),
-        ("GET /v2/a/blobs/sha256:", 63, " ", "no request"),
-        ("GET /v2/a/blobs/sha256:", 63, "A", "no request"),
-        ("GET /v2/a/tags/list HTTP/1.1\r\nHost: ", 255, "", "cut"),
-        ("GET /v2/a/tags/list HTTP/1.1\r\nHost: ", 255, "\r", "cut"),
-        (
-            "GET /v2/a/tags/list HTTP/1.1\r\nHost: ",
-            256,
-            "",
-            "no request",
-        ),
-        (
-            "GET /v2/a/tags/list HTTP/1.1\r\nHost: ",
-            9_999,
-            "",
-            "no request",
-        ),
-    ] {
+    for (front, times, rest, asked) in FRONTS {
         let input = with_many(alloc, front, "0", times, rest)?;
         assert!(rt;
             asks(alloc, input.as_bytes(), &[], &[], asked)?,
