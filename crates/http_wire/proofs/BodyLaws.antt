@@ -9,7 +9,7 @@ use Rattle.http_wire.specs.declared.body.BodyState.{BodyState}
 use Rattle.http_wire.specs.declared.body.BodyState.TheVariants as states
 use Rattle.http_wire.specs.declared.body.Piece.{Piece}
 use Rattle.http_wire.specs.declared.body.Piece.TheVariants as pieces
-use Rattle.http_wire.specs.Bodies.{IsGap, print_gap, IsSection, print_trailer, after_size, Passes, IsBad, IsCut, Outcome, ends_before, is_cut_short, is_malformed, Goes, Stops, Runs, stops, goes, due, less, Skips, stays, skips, Advances}
+use Rattle.http_wire.specs.Bodies.{IsGap, print_gap, IsSection, print_trailer, after_size, Passes, IsBad, IsCut, Outcome, ends_before, is_cut_short, is_malformed, Goes, Stops, Runs, stops, goes, due, less, Skips, stays, skips}
 use Rattle.http_wire.proofs.PieceLaws.{HasPiece-append, IsBadPiece-append, piece_not_bad, piece_not_cut, bad_not_cut}
 
 -- ---- what follows does not change a piece
@@ -91,6 +91,10 @@ one_run state bytes d e o p (goes _ _ _ _ n f r m x is run) (goes _ _ _ _ k g q 
     (is ∙ (λ i. same.1 i ++ rest.0 i) ∙ sym also, rest.1)
 
 -- ---- moving on
+
+-- whatever a reader makes of the rest, it made that of the whole, behind what it gave
+abbrev pub Advances : BodyState → List ℕ → List ℕ → BodyState → List ℕ → Type 0
+Advances old bytes given new rest = (decoded : List ℕ) (outcome : Outcome) → Runs new rest decoded outcome → Runs old bytes (given ++ decoded) outcome
 
 pub advances_by : (state : BodyState) (bytes : List ℕ) (next : BodyState) (rest : List ℕ) → Goes state bytes next [] rest → Advances state bytes [] next rest
 advances_by state bytes next rest x decoded outcome run = goes state bytes decoded outcome next [] rest decoded x refl run

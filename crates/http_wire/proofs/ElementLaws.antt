@@ -8,7 +8,7 @@ use Rattle.http_wire.specs.Fields.{field_parts}
 use Rattle.http_wire.specs.Framing.{is_same, values_of}
 use Rattle.std.specs.Prelude.{codes}
 use Rattle.std.proofs.lemmas.Bool.Decides.{nat_tests}
-use Rattle.http_wire.specs.Questions.{begins_with, has_element, ends_connection}
+use Rattle.http_wire.specs.Questions.{is_name_then_ows, has_element, ends_connection}
 use Rattle.http_wire.proofs.FieldLaws.{found_at, not_found}
 
 -- ---- values of one name that pass a test
@@ -70,13 +70,13 @@ unfolding Cut
 split_without_comma bytes none = (cut_at bytes).1 (not_found _ (length bytes) none)
 
 pub element_at : (name rest : List ℕ) (comma : ℕ) (found : Bool) → position (λ b. b == 44) rest ≡ Some comma → comma < length rest
-    → found ≡ begins_with name (skip_ows (take comma rest)) → has_element name rest ≡ (found || has_element name (drop (suc comma) rest))
+    → found ≡ is_name_then_ows name (skip_ows (take comma rest)) → has_element name rest ≡ (found || has_element name (drop (suc comma) rest))
 element_at name rest comma found at inside is =
-    ap (list_any (λ element. begins_with name (skip_ows element))) (split_at_comma rest comma at inside) ∙ ap (λ (v : Bool). v || has_element name (drop (suc comma) rest)) (sym is)
+    ap (list_any (λ element. is_name_then_ows name (skip_ows element))) (split_at_comma rest comma at inside) ∙ ap (λ (v : Bool). v || has_element name (drop (suc comma) rest)) (sym is)
 
-pub last_element : (name rest : List ℕ) → position (λ b. b == 44) rest ≡ None → has_element name rest ≡ begins_with name (skip_ows rest)
+pub last_element : (name rest : List ℕ) → position (λ b. b == 44) rest ≡ None → has_element name rest ≡ is_name_then_ows name (skip_ows rest)
 last_element name rest none =
-    ap (list_any (λ element. begins_with name (skip_ows element))) (split_without_comma rest none) ∙ or_false (begins_with name (skip_ows rest))
+    ap (list_any (λ element. is_name_then_ows name (skip_ows element))) (split_without_comma rest none) ∙ or_false (is_name_then_ows name (skip_ows rest))
   where
     or_false : (v : Bool) → (v || false) ≡ v
     or_false true = refl

@@ -1,5 +1,5 @@
 -- From what waits in a feed to what the stream is.
-use Rattle.std.proofs.Common.{◌≡◌, ℕ, zero, suc, ◌+◌, ◌-◌, ◌<◌, ◌≤◌, true, false, List, [], ◌∷◌, ◌++◌, length, take, drop, slice_range, refl, sym, ap, subst, ◌∙◌, arith, append-nil, append_assoc, length-take, length-drop, inl, inr, Option, Some, None}
+use Rattle.std.proofs.Common.{◌≡◌, ℕ, zero, suc, ◌+◌, ◌-◌, ◌<◌, ◌≤◌, ◌⊎◌, true, false, List, [], ◌∷◌, ◌++◌, length, take, drop, slice_range, refl, sym, ap, subst, ◌∙◌, arith, append-nil, append_assoc, length-take, length-drop, inl, inr, Option, Some, None}
 use Rattle.std.proofs.lemmas.List.{drop-drop, drop-take}
 use lib.Seq.{take-add}
 use Rattle.std.specs.Io.KnownBytes.{prepend_known, Keeps, Consumes, IsAtEnd}
@@ -57,6 +57,14 @@ bad p q faults.TooLarge few (inr many) = inr (many_fields-append p q many)
 
 IsBad-same : (a b : List ℕ) (why : BadHead) → b ≡ a → IsBad b why → IsBad a why
 IsBad-same a b why same x = subst (λ (c : List ℕ). IsBad c why) same x
+
+-- what is known of a head, and of a refusal, of any bytes
+pub head_minor : (p : List ℕ) (head : Head) (count : ℕ) → Judges (judged.Whole head count) p → head.minor ≤ 1
+head_minor p head count judges = subst (λ (n : ℕ). n ≤ 1) (sym judges.1.minor) judges.2.0.minor
+
+pub number_known : (why : BadHead) (number : ℕ) → number ≡ number_of why → (number ≡ 18) ⊎ (number ≡ 19)
+number_known faults.Malformed number is = inl is
+number_known faults.TooLarge number is = inr is
 
 pub refuses : (old left : Option (List ℕ)) (p : List ℕ) (why : BadHead) (number : ℕ) → number ≡ number_of why → Keeps old (prepend_known p left) → length p ≤ 16384
     → Judges (judged.Bad why) p → OnStream old (prepend_known p left) (Tells (headings.Bad number))

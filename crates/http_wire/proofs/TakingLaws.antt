@@ -1,20 +1,18 @@
 -- From what waits in a feed to the pieces of a body on the stream.
-use Rattle.std.proofs.Common.{◌≡◌, ℕ, ◌+◌, ◌-◌, ◌<◌, ◌≤◌, min, List, [], ◌++◌, length, take, drop, slice_range, refl, sym, ap, subst, ◌∙◌, arith, append_assoc, append-nil, length-append, length-take-le, Option, Some, None}
+use Rattle.std.proofs.Common.{◌≡◌, ℕ, ◌+◌, ◌-◌, ◌<◌, ◌≤◌, min, List, [], ◌++◌, length, take, drop, slice_range, refl, sym, ap, subst, ◌∙◌, arith, append_assoc, append-nil, length-append, Option, Some, None}
 use Rattle.std.proofs.Math.Nat.{sub-zero}
 use Rattle.std.specs.Io.KnownBytes.{prepend_known, Keeps, IsAtEnd}
 use Rattle.http_wire.specs.declared.body.BodyState.{BodyState}
 use Rattle.http_wire.specs.declared.body.BodyState.TheVariants as states
 use Rattle.http_wire.specs.declared.body.Piece.{Piece}
 use Rattle.http_wire.specs.declared.body.Piece.TheVariants as pieces
-use Rattle.http_wire.specs.declared.body.BodyStep.{BodyStep}
-use Rattle.http_wire.specs.declared.body.BodyStep.TheVariants as steps
 use Rattle.http_wire.specs.declared.pieces.PieceJudged.{PieceJudged}
 use Rattle.http_wire.specs.declared.pieces.PieceJudged.TheVariants as judged
 use Rattle.http_wire.specs.declared.pieces.Taken.TheVariants as taken
-use Rattle.http_wire.specs.Bodies.{Passes, IsBad, IsCut, is_cut_short, Stops, Runs, stops, due, less, Advances}
-use Rattle.http_wire.specs.BodyAnswers.{limit_of, given, count_of, IsEndOf, GivesSome, JudgesPiece, JudgesFront, FitsFront, IsAfter, Takes}
+use Rattle.http_wire.specs.Bodies.{Passes, IsBad, IsCut, is_cut_short, Stops, due, less}
+use Rattle.http_wire.specs.BodyAnswers.{limit_of, JudgesPiece, JudgesFront, FitsFront, IsAfter, Takes}
 use Rattle.http_wire.specs.Flow.{OnStream}
-use Rattle.http_wire.proofs.BodyLaws.{Passes-append, IsBad-append, advances_none, advances_in}
+use Rattle.http_wire.proofs.BodyLaws.{Passes-append, IsBad-append}
 use Rattle.http_wire.proofs.StreamLaws.{slice_split, length_slice, drop_front}
 
 cut_is_short : (piece : Piece) (bytes : List ℕ) → IsCut piece bytes → length bytes < limit_of piece
@@ -92,24 +90,6 @@ less_none (states.Before piece) = refl
 less_none states.Done = refl
 less_none states.Refused = refl
 
--- nothing came
-none_in : (state : BodyState) (old new : List ℕ) → new ≡ old → Advances state old [] (less state 0) new
-none_in state old new is =
-    subst (λ (s : BodyState). Advances state old [] s new) (sym (less_none state)) (subst (λ (b : List ℕ). Advances state old [] state b) (sym is) (advances_none state old))
-
-pub step_in : (step : BodyStep) (state : BodyState) (room old new : List ℕ) → count_of step ≤ due state → GivesSome step room old new
-    → Advances state old (given step room) (less state (count_of step)) new
-step_in (steps.Bytes n) state room old new few (fits, is) =
-    let long : length (take n room) ≡ n = length-take-le n room fits in
-    let within : length (take n room) ≤ due state = omega (arith, few, long) in
-    subst (λ (k : ℕ). Advances state old (take n room) (less state k) new) long
-    (subst (λ (b : List ℕ). Advances state b (take n room) (less state (length (take n room))) new) (sym is) (advances_in state (take n room) new within))
-step_in steps.End state room old new few x = absurd x
-step_in steps.Cut state room old new few x = none_in state old new (x.1 ∙ sym x.0)
-step_in steps.Bad state room old new few x = absurd x
-step_in steps.SourceFault state room old new few x = none_in state old new x
-step_in steps.Long state room old new few x = none_in state old new x
-
 -- an input that ends inside the data
 pub cut_in : (state : BodyState) (bytes : List ℕ) → 0 < due state → bytes ≡ [] → Stops state bytes [] is_cut_short
 cut_in (states.Fixed n) bytes some none = (omega (arith, some, ap length none), sym none, refl)
@@ -117,12 +97,3 @@ cut_in (states.Data n) bytes some none = (omega (arith, some, ap length none), s
 cut_in (states.Before piece) bytes some none = absurd (omega (arith, some))
 cut_in states.Done bytes some none = absurd (omega (arith, some))
 cut_in states.Refused bytes some none = absurd (omega (arith, some))
-
-pub end_in : (step : BodyStep) (state : BodyState) (room old new : List ℕ) → 0 < due state → GivesSome step room old new → IsEndOf step (less state (count_of step)) new
-end_in (steps.Bytes n) state room old new some x = tt
-end_in steps.End state room old new some x = absurd x
-end_in steps.Cut state room old new some x =
-    subst (λ (s : BodyState). Runs s new [] is_cut_short) (sym (less_none state)) (stops state new [] is_cut_short (cut_in state new some x.1))
-end_in steps.Bad state room old new some x = absurd x
-end_in steps.SourceFault state room old new some x = tt
-end_in steps.Long state room old new some x = tt

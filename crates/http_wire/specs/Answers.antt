@@ -3,6 +3,7 @@ use Rattle.std.specs.Prelude.{◌≡◌, ℕ, ◌≤◌, ◌<◌, ◌⊎◌, tru
 use Rattle.std.specs.List.{list_all}
 use Rattle.httparse.specs.Pieces.{is_newline}
 use Rattle.httparse.specs.Grammar.{RequestHead, ReadsRequest, print_request}
+use Rattle.http_wire.specs.declared.head.Head.{Head}
 use Rattle.http_wire.specs.declared.head.Heading.{Heading}
 use Rattle.http_wire.specs.declared.head.Heading.TheVariants as headings
 use Rattle.http_wire.specs.declared.head.BadHead.{BadHead}
@@ -16,15 +17,25 @@ use Rattle.httparse.specs.Spans.{IsRequestOf, IsRequestWithin}
 use Rattle.http_wire.specs.Fields.{Shows}
 use Rattle.http_wire.specs.Heads.{begins, is_nothing, is_cut, is_malformed, is_too_large, Holds, HasManyFields, IsHopeless, IsOpen}
 
--- P, if the answer is a head
-abbrev pub IfHead : Heading → Type 0 → Type 0
-IfHead (headings.Head head) P = P
+-- P of the head, if the answer is one
+abbrev pub IfHead : Heading → (Head → Type 0) → Type 0
+IfHead (headings.Head head) P = P head
 IfHead headings.End P = ⊤
 IfHead headings.Cut P = ⊤
 IfHead (headings.Bad number) P = ⊤
 IfHead headings.SourceFault P = ⊤
 IfHead headings.Long P = ⊤
 IfHead headings.NoMemory P = ⊤
+
+-- P of the number, if the answer is a refusal
+abbrev pub IfBad : Heading → (ℕ → Type 0) → Type 0
+IfBad (headings.Head head) P = ⊤
+IfBad headings.End P = ⊤
+IfBad headings.Cut P = ⊤
+IfBad (headings.Bad number) P = P number
+IfBad headings.SourceFault P = ⊤
+IfBad headings.Long P = ⊤
+IfBad headings.NoMemory P = ⊤
 
 -- the number of a refusal
 abbrev pub number_of : BadHead → ℕ

@@ -128,6 +128,7 @@ pub data Skips : BodyState → List ℕ → BodyState → List ℕ → Type 0 wh
   skips : (old : BodyState) (bytes : List ℕ) (new : BodyState) (rest : List ℕ) (last : BodyState) (behind : List ℕ)
       → Skips old bytes last behind → Goes last behind new [] rest → Skips old bytes new rest
 
--- the reader moved on over some bytes, and gave those decoded bytes: whatever it makes of the rest, it made that of the whole
-abbrev pub Advances : BodyState → List ℕ → List ℕ → BodyState → List ℕ → Type 0
-Advances old bytes given new rest = (decoded : List ℕ) (outcome : Outcome) → Runs new rest decoded outcome → Runs old bytes (given ++ decoded) outcome
+-- the reader moved on by steps that gave nothing, and then took these bytes, as they are, of the data that it stood in
+abbrev pub Moves : BodyState → List ℕ → List ℕ → BodyState → List ℕ → Type 0
+Moves old bytes given new rest =
+    (at : BodyState) × (behind : List ℕ) × Skips old bytes at behind × (length given ≤ due at) × (behind ≡ given ++ rest) × (new ≡ less at (length given))

@@ -15,7 +15,7 @@ use Rattle.http_wire.specs.declared.reach.Reached.{Reached}
 use Rattle.http_wire.specs.declared.reach.Reached.TheVariants as reached
 use Rattle.http_wire.specs.declared.pieces.Taken.{Taken}
 use Rattle.http_wire.specs.declared.pieces.Taken.TheVariants as taken
-use Rattle.http_wire.specs.Bodies.{after_size, Passes, IsBad, IsCut, ends_before, is_cut_short, is_malformed, Stops, Runs}
+use Rattle.http_wire.specs.Bodies.{after_size, Passes, IsBad, IsCut, ends_before, is_cut_short, is_malformed, Stops}
 
 -- where a reader stands
 abbrev pub state_of : BodyReader → BodyState
@@ -36,14 +36,70 @@ given steps.Bad room = []
 given steps.SourceFault room = []
 given steps.Long room = []
 
--- how the body ends where a step says so: with nothing more to give
-abbrev pub IsEndOf : BodyStep → BodyState → List ℕ → Type 0
-IsEndOf (steps.Bytes n) state rest = ⊤
-IsEndOf steps.End state rest = Runs state rest [] (ends_before rest)
-IsEndOf steps.Cut state rest = Runs state rest [] is_cut_short
-IsEndOf steps.Bad state rest = Runs state rest [] is_malformed
-IsEndOf steps.SourceFault state rest = ⊤
-IsEndOf steps.Long state rest = ⊤
+-- no step more, where a step says how the body ends: nothing is to come, and the reader stands before what ends it
+abbrev pub IsStopOf : BodyStep → BodyState → List ℕ → Type 0
+IsStopOf (steps.Bytes n) state rest = ⊤
+IsStopOf steps.End state rest = Stops state rest [] (ends_before rest)
+IsStopOf steps.Cut state rest = Stops state rest [] is_cut_short
+IsStopOf steps.Bad state rest = Stops state rest [] is_malformed
+IsStopOf steps.SourceFault state rest = ⊤
+IsStopOf steps.Long state rest = ⊤
+
+-- what a step can answer inside data of which so many bytes are to come, whatever the source is
+abbrev pub IsOfData : ℕ → BodyStep → Type 0
+IsOfData left (steps.Bytes n) = n ≤ left
+IsOfData left steps.End = ⊥
+IsOfData left steps.Cut = ⊤
+IsOfData left steps.Bad = ⊥
+IsOfData left steps.SourceFault = ⊤
+IsOfData left steps.Long = ⊤
+
+-- and behind the last data
+abbrev pub GivesNone : BodyStep → Type 0
+GivesNone (steps.Bytes n) = ⊥
+GivesNone steps.End = ⊤
+GivesNone steps.Cut = ⊤
+GivesNone steps.Bad = ⊤
+GivesNone steps.SourceFault = ⊤
+GivesNone steps.Long = ⊤
+
+-- what a step can answer where the reader stood, whatever the source is
+abbrev pub CanStep : BodyState → BodyStep → Type 0
+CanStep (states.Fixed n) step = (n ≡ 0 → step ≡ steps.End) × (0 < n → IsOfData n step)
+CanStep (states.Data n) step = 0 < n → IsOfData n step
+CanStep (states.Before pieces.Gap) step = ⊤
+CanStep (states.Before pieces.Line) step = ⊤
+CanStep (states.Before pieces.Trailer) step = GivesNone step
+CanStep states.Done step = step ≡ steps.End
+CanStep states.Refused step = step ≡ steps.Bad
+
+-- what a reader reaches inside a body of which n bytes are due by its Content-Length, and where it stands then
+abbrev pub ReachesLength : Reached → ℕ → BodyState → Type 0
+ReachesLength (reached.Data left) n next = (left ≡ n) × (next ≡ states.Fixed n)
+ReachesLength reached.End n next = (n ≡ 0) × (next ≡ states.Done)
+ReachesLength reached.Cut n next = ⊥
+ReachesLength reached.Bad n next = ⊥
+ReachesLength reached.SourceFault n next = ⊥
+ReachesLength reached.Long n next = ⊥
+
+-- and behind the last data
+abbrev pub IsNoData : Reached → Type 0
+IsNoData (reached.Data left) = ⊥
+IsNoData reached.End = ⊤
+IsNoData reached.Cut = ⊤
+IsNoData reached.Bad = ⊤
+IsNoData reached.SourceFault = ⊤
+IsNoData reached.Long = ⊤
+
+-- what a reader can reach from where it stood, whatever the source is, and where it stands then
+abbrev pub CanReach : BodyState → Reached → BodyState → Type 0
+CanReach (states.Fixed n) what next = ReachesLength what n next
+CanReach (states.Data n) what next = 0 < n → (what ≡ reached.Data n) × (next ≡ states.Data n)
+CanReach (states.Before pieces.Gap) what next = ⊤
+CanReach (states.Before pieces.Line) what next = ⊤
+CanReach (states.Before pieces.Trailer) what next = IsNoData what
+CanReach states.Done what next = (what ≡ reached.End) × (next ≡ states.Done)
+CanReach states.Refused what next = (what ≡ reached.Bad) × (next ≡ states.Refused)
 
 -- no step more, where a reader reached the end: nothing is to come
 abbrev pub IsAtStop : Reached → BodyState → List ℕ → Type 0
@@ -60,8 +116,8 @@ HasDue (reached.Data left) count = (count ≡ left) × (0 < left)
 HasDue reached.End count = count ≡ 0
 HasDue reached.Cut count = count ≡ 0
 HasDue reached.Bad count = count ≡ 0
-HasDue reached.SourceFault count = ⊤
-HasDue reached.Long count = ⊤
+HasDue reached.SourceFault count = count ≡ 0
+HasDue reached.Long count = count ≡ 0
 
 -- P of the number of bytes, where a step gave any
 abbrev pub IfBytes : BodyStep → (ℕ → Type 0) → Type 0

@@ -1,11 +1,12 @@
 -- Bodies of at most so many bytes, which are put into a stage.
 use Rattle.std.specs.Prelude.{◌≡◌, ℕ, ◌+◌, ◌-◌, ◌<◌, ◌≤◌, Bool, IsTrue, List, [], ◌++◌, length, take, ⊤}
 use Rattle.http_wire.specs.declared.body.BodyState.{BodyState}
+use Rattle.http_wire.specs.declared.body.BodyState.TheVariants as states
 use Rattle.http_wire.specs.declared.body.BodyTaken.{BodyTaken}
 use Rattle.http_wire.specs.declared.body.BodyTaken.TheVariants as answers
 use Rattle.http_wire.specs.declared.taking.Put.{Put}
 use Rattle.http_wire.specs.declared.taking.Put.TheVariants as puts
-use Rattle.http_wire.specs.Bodies.{due, Outcome, ends_before, is_cut_short, is_malformed, Goes, Stops}
+use Rattle.http_wire.specs.Bodies.{due, less, Outcome, ends_before, is_cut_short, is_malformed, Goes, Stops}
 
 -- how a body ends of which so many bytes may come: as any does, or it is too long
 pub data Filling : Type 0 where
@@ -22,9 +23,14 @@ pub data Fills : ℕ → BodyState → List ℕ → List ℕ → Filling → Typ
   goes_within : (most : ℕ) (state : BodyState) (bytes decoded : List ℕ) (filling : Filling) (next : BodyState) (first rest more : List ℕ) → due state ≤ most
       → Goes state bytes next first rest → decoded ≡ first ++ more → Fills (most - length first) next rest more filling → Fills most state bytes decoded filling
 
--- the reader moved on over some bytes, and gave those decoded bytes: whatever it makes of the rest, it made that of the whole
-abbrev pub FillsOn : ℕ → BodyState → List ℕ → List ℕ → BodyState → List ℕ → Type 0
-FillsOn most old bytes given new rest = (decoded : List ℕ) (filling : Filling) → Fills (most - length given) new rest decoded filling → Fills most old bytes (given ++ decoded) filling
+-- the reader moved on over some bytes and gave those decoded bytes, and never began data that would pass `most` of them
+pub data FillsOn : ℕ → BodyState → List ℕ → List ℕ → BodyState → List ℕ → Type 0 where
+  takes_none : (most : ℕ) (old : BodyState) (bytes given : List ℕ) (new : BodyState) (rest : List ℕ) → old ≡ new → bytes ≡ rest → given ≡ [] → FillsOn most old bytes given new rest
+  takes_piece : (most : ℕ) (old : BodyState) (bytes given : List ℕ) (new : BodyState) (rest : List ℕ) (last : BodyState) (behind : List ℕ)
+      → FillsOn most old bytes given last behind → Goes last behind new [] rest → FillsOn most old bytes given new rest
+  takes_data : (most : ℕ) (old : BodyState) (bytes given : List ℕ) (new : BodyState) (rest : List ℕ) (last : BodyState) (behind before more : List ℕ)
+      → FillsOn most old bytes before last behind → due last ≤ most - length before → length more ≤ due last → behind ≡ more ++ rest → new ≡ less last (length more)
+      → given ≡ before ++ more → FillsOn most old bytes given new rest
 
 -- whether a stage tells what it holds, how many bytes, and which
 pub record Staged : Type 0 where
@@ -43,18 +49,73 @@ Gains before now bytes = (now.count ≡ before.count + length bytes) × (IsTrue 
 abbrev pub GainsSome : Staged → Staged → List ℕ → ℕ → List ℕ → Type 0
 GainsSome before now bytes most next =
     (before.count + length bytes ≤ now.count)
+    × (now.count ≤ before.count + length bytes + most)
     × (IsTrue before.tells → (some : ℕ) × (some ≤ most) × (some ≤ length next) × (now.bytes ≡ before.bytes ++ (bytes ++ take some next)))
 
--- what an answer says of the stream and of the stage, before the call and after it
+-- a stage that tells what it holds has kept its bytes, and has what it gained behind them
+abbrev pub Extends : Staged → Staged → Type 0
+Extends before now = IsTrue before.tells → (more : List ℕ) × (now.bytes ≡ before.bytes ++ more)
+
+-- ---- what an answer says, of a call before which a reader stood in `first` and behind which it stands in `last`
+
+-- the stage gained the bytes that the reader gave; where the stage failed, also a front of the data that are due
+abbrev pub GainsGiven : BodyTaken → Staged → Staged → List ℕ → ℕ → List ℕ → Type 0
+GainsGiven (answers.Whole n) before now given left rest = Gains before now given × (n ≡ length given)
+GainsGiven answers.TooLong before now given left rest = Gains before now given
+GainsGiven answers.Cut before now given left rest = Gains before now given
+GainsGiven answers.Bad before now given left rest = Gains before now given
+GainsGiven answers.SourceFault before now given left rest = Gains before now given
+GainsGiven answers.Long before now given left rest = Gains before now given
+GainsGiven answers.StageFault before now given left rest = GainsSome before now given left rest
+GainsGiven answers.NoMemory before now given left rest = Gains before now given
+
+-- the reader moved on, and the stage has what it gave
 abbrev pub TakesBody : BodyTaken → ℕ → BodyState → List ℕ → BodyState → List ℕ → Staged → Staged → Type 0
-TakesBody (answers.Whole n) most first old last new before now = (body : List ℕ) × Fills most first old body (within (ends_before new)) × (n ≡ length body) × Gains before now body
-TakesBody answers.TooLong most first old last new before now = (body : List ℕ) × Fills most first old body is_too_long × Gains before now body
-TakesBody answers.Cut most first old last new before now = (body : List ℕ) × Fills most first old body (within is_cut_short) × Gains before now body
-TakesBody answers.Bad most first old last new before now = (body : List ℕ) × Fills most first old body (within is_malformed) × Gains before now body
-TakesBody answers.SourceFault most first old last new before now = (given : List ℕ) × FillsOn most first old given last new × Gains before now given
-TakesBody answers.Long most first old last new before now = (given : List ℕ) × FillsOn most first old given last new × Gains before now given
-TakesBody answers.NoMemory most first old last new before now = (given : List ℕ) × FillsOn most first old given last new × Gains before now given
-TakesBody answers.StageFault most first old last new before now = (given : List ℕ) × FillsOn most first old given last new × GainsSome before now given (due last) new
+TakesBody answer most first old last new before now = (given : List ℕ) × FillsOn most first old given last new × GainsGiven answer before now given (due last) new
+
+-- no step more, where the answer says how the body ended: the next call says the same
+abbrev pub IsStopOf : BodyTaken → BodyState → List ℕ → Type 0
+IsStopOf (answers.Whole n) last rest = Stops last rest [] (ends_before rest)
+IsStopOf answers.TooLong last rest = ⊤
+IsStopOf answers.Cut last rest = Stops last rest [] is_cut_short
+IsStopOf answers.Bad last rest = Stops last rest [] is_malformed
+IsStopOf answers.SourceFault last rest = ⊤
+IsStopOf answers.Long last rest = ⊤
+IsStopOf answers.StageFault last rest = ⊤
+IsStopOf answers.NoMemory last rest = ⊤
+
+-- after so many decoded bytes: where the body is too long those that are due would pass the limit, and at the other answers they
+-- would not; where the stage failed that is told of those that are due alone, for it may hold some of them
+abbrev pub KeepsLimit : BodyTaken → ℕ → ℕ → ℕ → Type 0
+KeepsLimit (answers.Whole n) most count left = count + left ≤ most
+KeepsLimit answers.TooLong most count left = most < count + left
+KeepsLimit answers.Cut most count left = count + left ≤ most
+KeepsLimit answers.Bad most count left = count + left ≤ most
+KeepsLimit answers.SourceFault most count left = count + left ≤ most
+KeepsLimit answers.Long most count left = count + left ≤ most
+KeepsLimit answers.StageFault most count left = left ≤ most
+KeepsLimit answers.NoMemory most count left = count + left ≤ most
+
+-- of a body of which n bytes are due by its Content-Length
+abbrev pub AnswersLength : BodyTaken → ℕ → ℕ → Type 0
+AnswersLength (answers.Whole count) n most = (count ≡ n) × (n ≤ most)
+AnswersLength answers.TooLong n most = most < n
+AnswersLength answers.Cut n most = (0 < n) × (n ≤ most)
+AnswersLength answers.Bad n most = ⊥
+AnswersLength answers.SourceFault n most = (0 < n) × (n ≤ most)
+AnswersLength answers.Long n most = (0 < n) × (n ≤ most)
+AnswersLength answers.StageFault n most = (0 < n) × (n ≤ most)
+AnswersLength answers.NoMemory n most = (0 < n) × (n ≤ most)
+
+-- what the state in which the reader stood tells of the answer, whatever the source gives
+abbrev pub CanAnswer : BodyState → ℕ → BodyTaken → Type 0
+CanAnswer (states.Fixed n) most answer = AnswersLength answer n most
+CanAnswer (states.Data n) most answer = most < n → answer ≡ answers.TooLong
+CanAnswer (states.Before piece) most answer = ⊤
+CanAnswer states.Done most answer = answer ≡ answers.Whole 0
+CanAnswer states.Refused most answer = answer ≡ answers.Bad
+
+-- ---- the parts of a call
 
 -- some bytes were taken off the stream and put behind the staged ones, or none
 abbrev pub PutsSome : Put → ℕ → List ℕ → List ℕ → Staged → Staged → Type 0

@@ -8,12 +8,12 @@ use Rattle.http_wire.specs.declared.head.Framing.TheVariants.{Length, Chunked, B
 use Rattle.http_wire.specs.Framing.{is_same, is_number, values_of, framing_by}
 
 -- the text, without regard to ASCII case, and then white space alone
-abbrev pub begins_with : List ℕ → List ℕ → Bool
-begins_with name text = nat_le (length name) (length text) && (is_same (take (length name) text) name && list_all is_ows (drop (length name) text))
+abbrev pub is_name_then_ows : List ℕ → List ℕ → Bool
+is_name_then_ows name text = nat_le (length name) (length text) && (is_same (take (length name) text) name && list_all is_ows (drop (length name) text))
 
 -- an element between commas that is the text, with white space around it (RFC 9110, section 5.6.1)
 abbrev pub has_element : List ℕ → List ℕ → Bool
-has_element name value = list_any (λ element. begins_with name (skip_ows element)) (slice_split (λ b. b == 44) value)
+has_element name value = list_any (λ element. is_name_then_ows name (skip_ows element)) (slice_split (λ b. b == 44) value)
 
 -- HTTP/1.0, or a Connection field with the element `close` (RFC 9112, section 9.6)
 abbrev pub ends_connection : ℕ → List (List ℕ × List ℕ) → Bool

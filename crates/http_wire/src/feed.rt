@@ -60,7 +60,7 @@ pub(crate) enum Refill {
 }
 
 impl Feed {
-    /// An empty feed. It takes all the memory that it will ever need, about 280 KB.
+    /// An empty feed. It takes all the memory that it will ever need, about 280 KB: an error is want of it.
     pub fn new(alloc: Global) -> Result<Feed, NoMemory>
         ensures pending { IfOk result (λ f. f.pending ≡ []) }
         ensures taken { IfOk result (λ f. f.taken ≡ 0) }

@@ -7,7 +7,9 @@ ghost use Rattle.http_wire.specs.Framing as spec;
 use crate::fields::{Found, find, is_same};
 use crate::{Framing, Head};
 
-/// Where the body of a request ends, by its Content-Length and Transfer-Encoding fields. It takes no memory.
+/// Where the body of a request ends, by its Content-Length (RFC 9110, section 8.6) and Transfer-Encoding fields (RFC
+/// 9112, sections 6.1 to 6.3): one field of 1 to 18 decimal digits, or in HTTP/1.1 one of `chunked`; with neither, a
+/// body of no bytes. It takes no memory.
 pub fn framing(head: &Head) -> Framing
     ensures { result ≡ spec.framing_by head.now.minor (fields_of head.now) }
 {

@@ -29,5 +29,5 @@ pub use head::{Field, Framing, Head, Heading, MALFORMED, TOO_LARGE};
 pub use messages::{messages_are_one, messages_go_on, spellings_are_apart, streams_have_messages};
 pub use questions::{content_type, ends_connection, expects_continue, range_start};
 pub use reading::{heads_are_exact, read_head};
-pub use reading_body::{bodies_are_exact, read_body};
-pub use taking::{limits_are_exact, limits_count_decoded_bytes, take_body};
+pub use reading_body::{bodies_are_exact, read_body, reads_add_up};
+pub use taking::{limits_are_exact, limits_count_decoded_bytes, take_body, takings_add_up};

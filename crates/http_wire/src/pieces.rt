@@ -1,5 +1,6 @@
 //! The pieces of a chunked body that stand between its data.
-ghost use Rattle.std.specs.Prelude.{◌≡◌, ℕ, ◌+◌, ◌<◌, ◌≤◌, ◌^◌, List, length, take, drop, min};
+ghost use Rattle.std.specs.Prelude.{◌≡◌, ℕ, ◌+◌, ◌<◌, ◌≤◌, ◌^◌, List, length, take, drop, min, false};
+ghost use Rattle.std.specs.Io.KnownBytes.{Keeps, IsAtEnd};
 ghost use Rattle.reg_names.specs.Cause.{HasCause};
 ghost use Rattle.http_wire.specs.BodyAnswers.{limit_of, JudgesPiece, IsBehind, Takes};
 ghost use Rattle.http_wire.specs.Bodies as bodies;
@@ -10,6 +11,9 @@ use crate::feed::Refill;
 use crate::{Feed, Source};
 use httparse::spans::{HeaderSpan, parse_headers};
 use httparse::{Status, parse_chunk_size};
+
+// The most hexadecimal digits of a chunk's size.
+const MOST_DIGITS: usize = 16;
 
 /// What the front of a stream is known to be. A whole piece comes with the state behind it and the number of its bytes.
 #[derive(Clone, Copy, Debug, PartialEq, Eq)]
@@ -120,11 +124,79 @@ pub(crate) fn take_piece<S: Source>(feed: &mut Feed, source: &mut S, piece: Piec
             PieceJudged::Bad => return Taken::Bad,
             PieceJudged::Open => {}
         }
-        match feed.refill(source) {
+        match read_on(feed, source, piece) {
             Refill::More => {}
             Refill::Ended => return Taken::Cut,
             Refill::SourceFault => return Taken::SourceFault,
             Refill::Long => return Taken::Long,
         }
+    }
+}
+
+// Reads behind bytes that were judged, until those that wait are to be judged again. What comes in driblets is judged
+// when it may be whole, and else when it has grown to twice its length: so the bytes of a piece are gone through a few
+// times in all.
+fn read_on<S: Source>(feed: &mut Feed, source: &mut S, piece: Piece) -> Refill
+    requires { length feed.old.pending < 16384 }
+    ensures bytes { Keeps (stream feed.old (S.left source.old)) (stream feed.new (S.left source.new)) }
+    ensures grows { result ≡ Refill.More → length feed.old.pending < length feed.new.pending }
+    ensures kept { result ≡ Refill.Ended → feed.new ≡ feed.old }
+    ensures ended { result ≡ Refill.Ended → IsAtEnd (S.left source.new) }
+    ensures bounded { IsBounded feed.new }
+    ensures cause { HasCause (S.faults source.old) (S.faults source.new) (result ≡ Refill.SourceFault) }
+    ensures long { result ≡ Refill.Long → 2 ^ 50 ≤ feed.new.taken }
+    ensures counts { Counts feed.old (S.given source.old) feed.new (S.given source.new) }
+    ensures read_already { spent feed.new ≡ spent feed.old }
+{
+    let judged = feed.pending().len();
+    let mut seen = judged;
+    loop {
+        match feed.refill(source) {
+            Refill::More if is_due(piece, feed.pending(), judged, seen) => return Refill::More,
+            Refill::More => seen = feed.pending().len(),
+            Refill::Ended if seen > judged => return Refill::More,
+            other => return other,
+        }
+    }
+}
+
+// Whether bytes are to be judged again, of which the first ones were judged, and those behind `seen` have just come.
+fn is_due(piece: Piece, bytes: &[u8], judged: usize, seen: usize) -> bool
+    requires { seen ≤ length bytes.now }
+    ensures { result ≡ false → length bytes.now < limit_of piece }
+{
+    bytes.len() >= limit(piece) || bytes.len() / 2 >= judged || may_be_whole(piece, bytes, seen)
+}
+
+// Whether the last byte of the piece may be among those behind `seen`. A size that is none is told at its first wrong
+// byte.
+fn may_be_whole(piece: Piece, bytes: &[u8], seen: usize) -> bool
+    requires { seen ≤ length bytes.now }
+{
+    match piece {
+        Piece::Gap => true,
+        Piece::Line => bytes.len() <= MOST_DIGITS + 1 || bytes[seen..].contains(&b'\n'),
+        Piece::Trailer => has_empty_line(bytes, seen),
+    }
+}
+
+// Whether an empty line ends behind `seen`.
+fn has_empty_line(bytes: &[u8], seen: usize) -> bool
+    requires { seen ≤ length bytes.now }
+{
+    for end in seen..bytes.len() {
+        if is_empty_line(&bytes[..=end]) {
+            return true;
+        }
+    }
+    false
+}
+
+// Whether bytes are an empty line, or end in one.
+fn is_empty_line(bytes: &[u8]) -> bool {
+    match bytes {
+        [b'\n'] | [b'\r', b'\n'] => true,
+        [.., b'\n', b'\n'] | [.., b'\n', b'\r', b'\n'] => true,
+        _ => false,
     }
 }

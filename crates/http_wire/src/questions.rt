@@ -11,7 +11,8 @@ use crate::fields::{first, is_same};
 use crate::framed::{framing, number};
 use crate::{Field, Framing, Head};
 
-/// Whether the connection ends after this request: in HTTP/1.0, or by `Connection: close` (RFC 9112, section 9.6).
+/// Whether the connection ends after this request: in HTTP/1.0, or by an element `close` of a Connection field (RFC 9110,
+/// section 7.6.1; RFC 9112, section 9.6).
 pub fn ends_connection(head: &Head) -> bool
     ensures { result ≡ spec.ends_connection head.now.minor (fields_of head.now) }
 {
@@ -35,7 +36,7 @@ fn has_element(value: &[u8], name: &[u8]) -> bool
     ensures { result ≡ spec.has_element name.now value.now }
 {
     let mut rest = value;
-    while let Some(comma) = comma_of(rest) {
+    while let Some(comma) = find_byte(rest, b',') {
         if is_element(&rest[..comma], name) {
             return true;
         }
@@ -44,21 +45,22 @@ fn has_element(value: &[u8], name: &[u8]) -> bool
     is_element(rest, name)
 }
 
-fn comma_of(value: &[u8]) -> Option<usize>
-    ensures place { result ≡ position (λ b. b == 44) value.now }
-    ensures within { IfSome result (λ at. at < length value.now) }
+fn find_byte(bytes: &[u8], byte: u8) -> Option<usize>
+    ensures place { result ≡ position (λ b. b == byte) bytes.now }
+    ensures within { IfSome result (λ at. at < length bytes.now) }
 {
-    value.iter().position(|b| *b == b',')
+    bytes.iter().position(|b| *b == byte)
 }
 
 fn is_element(element: &[u8], name: &[u8]) -> bool
-    ensures { result ≡ spec.begins_with name.now (grammar.skip_ows element.now) }
+    ensures { result ≡ spec.is_name_then_ows name.now (grammar.skip_ows element.now) }
 {
-    begins_with(skip_ows(element), name)
+    is_name_then_ows(skip_ows(element), name)
 }
 
-fn begins_with(text: &[u8], name: &[u8]) -> bool
-    ensures { result ≡ spec.begins_with name.now text.now }
+// Whether the text is `name`, without regard to ASCII case, and then white space alone.
+fn is_name_then_ows(text: &[u8], name: &[u8]) -> bool
+    ensures { result ≡ spec.is_name_then_ows name.now text.now }
 {
     name.len() <= text.len()
         && is_same(&text[..name.len()], name)
@@ -87,7 +89,8 @@ fn first_text(bytes: &[u8]) -> Option<usize>
     bytes.iter().position(|b| !(*b == b' ' || *b == b'\t'))
 }
 
-/// Whether the request waits for `100 Continue` before it sends its body (RFC 9110, section 10.1.1).
+/// Whether the request waits for `100 Continue` before it sends its body: in HTTP/1.1, where its first Expect field is
+/// `100-continue` and its body is not of length 0 (RFC 9110, section 10.1.1).
 pub fn expects_continue(head: &Head) -> bool
     ensures { result ≡ spec.expects_continue head.now.minor (fields_of head.now) }
 {
@@ -147,18 +150,11 @@ pub fn range_start(head: &Head) -> Option<u64>
 fn start_of(value: &[u8]) -> Option<u64>
     ensures { result ≡ spec.start_at value.now (position (λ b. b == 45) value.now) }
 {
-    match dash_of(value) {
+    match find_byte(value, b'-') {
         Some(dash) => match (number(&value[..dash]), number(&value[dash + 1..])) {
             (Some(start), Some(_)) => Some(start),
             _ => None,
         },
         None => None,
     }
-}
-
-fn dash_of(value: &[u8]) -> Option<usize>
-    ensures place { result ≡ position (λ b. b == 45) value.now }
-    ensures within { IfSome result (λ at. at < length value.now) }
-{
-    value.iter().position(|b| *b == b'-')
 }

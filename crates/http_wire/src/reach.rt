@@ -2,7 +2,7 @@
 ghost use Rattle.std.specs.Prelude.{◌≡◌, ℕ, ◌≤◌, ◌^◌, List};
 ghost use Rattle.reg_names.specs.Cause.{HasCause};
 ghost use Rattle.http_wire.specs.Bodies.{due, Skips};
-ghost use Rattle.http_wire.specs.BodyAnswers.{state_of, IsAtStop, HasDue};
+ghost use Rattle.http_wire.specs.BodyAnswers.{state_of, IsAtStop, HasDue, CanReach};
 ghost use Rattle.http_wire.specs.Flow.{stream, spent, OnStream, Counts};
 
 use crate::body::{BodyState, Piece};
@@ -32,6 +32,7 @@ pub(crate) fn reach_data<S: Source>(
     ensures stopped { OnStream (stream feed.old (S.left source.old)) (stream feed.new (S.left source.new))
         (λ old new. IsAtStop result (state_of body.new) new) }
     ensures left { HasDue result (due (state_of body.new)) }
+    ensures known { CanReach (state_of body.old) result (state_of body.new) }
     ensures progress { spent feed.old ≤ spent feed.new }
     ensures cause { HasCause (S.faults source.old) (S.faults source.new) (result ≡ Reached.SourceFault) }
     ensures long { result ≡ Reached.Long → 2 ^ 50 ≤ feed.new.taken }

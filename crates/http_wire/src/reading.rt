@@ -1,7 +1,7 @@
 //! Reading the head of a request.
-ghost use Rattle.std.specs.Prelude.{◌≡◌, ℕ, ◌^◌, ◌<◌, ◌≤◌, List};
+ghost use Rattle.std.specs.Prelude.{◌≡◌, ℕ, ◌^◌, ◌<◌, ◌≤◌, ◌⊎◌, List};
 ghost use Rattle.reg_names.specs.Cause.{HasCause};
-ghost use Rattle.http_wire.specs.Answers.{IfHead, Tells, EndsAs};
+ghost use Rattle.http_wire.specs.Answers.{IfHead, IfBad, Tells, EndsAs};
 ghost use Rattle.http_wire.specs.Flow.{stream, spent, IsBounded, OnStream, Counts};
 ghost use Rattle.http_wire.specs.Heads.{Verdict, Holds};
 
@@ -10,15 +10,21 @@ use crate::judge::{Judged, is_blank};
 use crate::{Feed, Heading, Source};
 use std::alloc::Global;
 
-/// Reads the head that the stream begins with, and takes it off the stream. With any other answer the stream is as it was.
-/// Nothing is judged before a line feed has come that stands past the leading CR and LF bytes, or 16,384 bytes have come.
+/// Reads the head of a request (RFC 9112, sections 2 to 5) that the stream begins with, and takes it off the stream.
+/// With any other answer the stream is as it was. Where the source tells its bytes, the answer is what they are. Nothing is
+/// judged before a line feed has come that stands past the leading CR and LF bytes, or 16,384 bytes have come. Only the
+/// head takes memory.
 pub fn read_head<S: Source>(alloc: Global, feed: &mut Feed, source: &mut S) -> Heading
     // What the bytes are: the waiting ones and those that the source has left.
     ensures answer { OnStream (stream feed.old (S.left source.old)) (stream feed.new (S.left source.new)) (Tells result) }
 
+    // Also where the source does not tell its bytes.
+    ensures minor { IfHead result (λ head. head.minor ≤ 1) }
+    ensures refusal { IfBad result (λ number. (number ≡ 18) ⊎ (number ≡ 19)) }
+
     // That readers come to an end.
     ensures bounded { IsBounded feed.new }
-    ensures progress { IfHead result (spent feed.old < spent feed.new) }
+    ensures progress { IfHead result (λ _. spent feed.old < spent feed.new) }
 
     // Why it gave up.
     ensures cause { HasCause (S.faults source.old) (S.faults source.new) (result ≡ Heading.SourceFault) }

@@ -1,6 +1,6 @@
 //! Streams of requests, and what has to be read of them.
 use crate::NoMemory;
-use crate::tests::whole::{Coming, Ending, Reading, read_stream};
+use crate::tests::whole::{Coming, Ending, Reading, read_one, read_stream};
 use std::alloc::Global;
 use std::test::Fail;
 
@@ -233,8 +233,17 @@ fn reads_chunked_bodies_however_they_are_cut(rt: HostRuntime) -> Result<(), Fail
 fn is_cut_at_every_end_inside_a_request(rt: HostRuntime) -> Result<(), Fail> {
     for request in REQUESTS {
         for end in 1..request.len() {
-            is_cut(rt.alloc(), &request[..end])?;
+            is_cut(rt.alloc(), &request[..end], Coming::Whole)?;
+            is_cut(rt.alloc(), &request[..end], Coming::ByteByByte)?;
         }
+    }
+    Ok(())
+}
+
+#[test]
+fn reads_nothing_behind_a_request(rt: HostRuntime) -> Result<(), Fail> {
+    for request in REQUESTS {
+        assert!(rt; read_one(rt.alloc(), request)?.has_one());
     }
     Ok(())
 }
@@ -299,12 +308,12 @@ fn reads(alloc: Global, row: Row, coming: Coming) -> Result<(), Fail> {
     }
 }
 
-fn is_cut(alloc: Global, stream: &[u8]) -> Result<(), Fail> {
-    let reading = read_stream(alloc, stream, Coming::Whole)?;
+fn is_cut(alloc: Global, stream: &[u8], coming: Coming) -> Result<(), Fail> {
+    let reading = read_stream(alloc, stream, coming)?;
     if reading.is_cut() {
         Ok(())
     } else {
-        Err(failure(alloc, stream, Coming::Whole, reading))
+        Err(failure(alloc, stream, coming, reading))
     }
 }
 

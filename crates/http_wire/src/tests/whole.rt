@@ -50,6 +50,11 @@ impl Reading {
         self.text.as_slice() == text && self.ending == ending && self.told == self.faults
     }
 
+    /// Whether it has a request, and the source never failed.
+    pub(super) fn has_one(&self) -> bool {
+        self.text.contains(&b'|') && self.faults == 0
+    }
+
     /// Whether the input ended inside the first request.
     pub(super) fn is_cut(&self) -> bool {
         !self.text.contains(&b'|')
@@ -66,19 +71,17 @@ pub(super) fn read_stream(
     bytes: &[u8],
     coming: Coming,
 ) -> Result<Reading, NoMemory> {
-    let mut stream = Stream {
-        source: source_of(alloc, bytes, coming)?,
-        feed: Feed::new(alloc)?,
-        text: Vec::new(alloc),
-        told: 0,
-    };
+    let mut stream = Stream::new(alloc, bytes, coming)?;
     let ending = stream.read_requests(alloc)?;
-    Ok(Reading {
-        ending,
-        faults: stream.source.faults(),
-        told: stream.told,
-        text: stream.text,
-    })
+    Ok(stream.into_reading(ending))
+}
+
+/// Reads one request, which comes byte by byte. The read behind its last byte fails.
+pub(super) fn read_one(alloc: Global, bytes: &[u8]) -> Result<Reading, NoMemory> {
+    let behind = Coming::WithFault(bytes.len() as u64);
+    let mut stream = Stream::new(alloc, bytes, behind)?;
+    let ending = stream.read_request(alloc)?.unwrap_or(Ending::Done);
+    Ok(stream.into_reading(ending))
 }
 
 #[derive(Drop)]
@@ -90,6 +93,24 @@ struct Stream {
 }
 
 impl Stream {
+    fn new(alloc: Global, bytes: &[u8], coming: Coming) -> Result<Stream, NoMemory> {
+        Ok(Stream {
+            source: source_of(alloc, bytes, coming)?,
+            feed: Feed::new(alloc)?,
+            text: Vec::new(alloc),
+            told: 0,
+        })
+    }
+
+    fn into_reading(self, ending: Ending) -> Reading {
+        Reading {
+            ending,
+            faults: self.source.faults(),
+            told: self.told,
+            text: self.text,
+        }
+    }
+
     fn read_requests(&mut self, alloc: Global) -> Result<Ending, NoMemory> {
         for _ in 0..MOST {
             if let Some(ending) = self.read_request(alloc)? {

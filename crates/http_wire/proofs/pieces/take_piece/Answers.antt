@@ -32,10 +32,10 @@ pub returns-in-Ended-clause-answer : goal.returns-in-Ended-clause-answer
 returns-in-Ended-clause-answer g c =
     let before = stream c.args.feed.now (g.S.Source.left c.args.source.now) in
     let was = g.S.Source.left c.loop-next.source in
-    let left = g.S.Source.left c.refill.new.source in
-    let now = c.refill.new.self in
-    let same = c.in-Ended.ensures.kept (λ e. cc) ∙ c.judge_piece.ensures.kept in
-    let step = subst (λ (v : Flow). Keeps (stream v was) (stream now left)) c.judge_piece.ensures.kept c.refill.ensures.bytes in
+    let left = g.S.Source.left c.read_on.new.source in
+    let now = c.read_on.new.feed in
+    let same = c.in-Ended.ensures.kept refl ∙ c.judge_piece.ensures.kept in
+    let step = subst (λ (v : Flow). Keeps (stream v was) (stream now left)) c.judge_piece.ensures.kept c.read_on.ensures.bytes in
     let kept = Keeps-trans before (stream c.loop-next.feed was) (stream now left) c.loop-next.invariant.0 step in
     let is_open = subst (λ (v : Flow). JudgesFront judged.Open c.args.piece v.pending) (sym same) c.in-Open.ensures.judged in
     piece_cut before left now.pending c.args.piece kept (c.in-Ended.ensures.ended refl) is_open

@@ -5,7 +5,7 @@ use Rattle.http_wire.proofs.questions.has_element.Goals as goal
 
 pub returns-then-is_element : goal.returns-then-is_element
 returns-then-is_element c =
-    let at = element_at c.args.name.now c.loop-comma.rest.now c.in-Some.comma true (sym c.comma_of.ensures.place ∙ c.in-Some.is) c.in-Some.ensures.within
+    let at = element_at c.args.name.now c.loop-comma.rest.now c.in-Some.comma true (sym c.find_byte.ensures.place ∙ c.in-Some.is) c.in-Some.ensures.within
     (sym c.if-is_element.true ∙ c.is_element.ensures) in
     sym at ∙ c.loop-comma.invariant.0
 
@@ -14,11 +14,11 @@ loop-comma-preserved c =
     let name = c.args.name.now in
     let rest = c.loop-comma.rest.now in
     let comma = c.in-Some.comma in
-    let at = element_at name rest comma false (sym c.comma_of.ensures.place ∙ c.in-Some.is) c.in-Some.ensures.within (sym c.if-is_element.false ∙ c.is_element.ensures) in
+    let at = element_at name rest comma false (sym c.find_byte.ensures.place ∙ c.in-Some.is) c.in-Some.ensures.within (sym c.if-is_element.false ∙ c.is_element.ensures) in
     let shorter : length (take (length rest - (comma + 1)) (drop (comma + 1) rest)) ≤ length c.args.value.now =
     omega (arith, c.loop-comma.invariant.1, length-take (length rest - (comma + 1)) (drop (comma + 1) rest), length-drop (comma + 1) rest) in
     (ap (has_element name) (rest_behind rest comma) ∙ sym at ∙ c.loop-comma.invariant.0, shorter)
 
 pub returns : goal.returns
 returns c =
-    c.is_element-2.ensures ∙ sym (last_element c.args.name.now c.loop-comma.rest.now (sym c.comma_of.ensures.place ∙ c.in_default.is)) ∙ c.loop-comma.invariant.0
+    c.is_element-2.ensures ∙ sym (last_element c.args.name.now c.loop-comma.rest.now (sym c.find_byte.ensures.place ∙ c.in_default.is)) ∙ c.loop-comma.invariant.0

@@ -5,7 +5,7 @@ use Rattle.http_wire.specs.declared.head.Heading.TheVariants as headings
 use Rattle.http_wire.specs.declared.judge.Judged.TheVariants as judged
 use Rattle.http_wire.specs.Answers.{Judges, Tells, EndsAs}
 use Rattle.http_wire.specs.Flow.{Flow, stream, OnStream}
-use Rattle.http_wire.proofs.StreamLaws.{finds, refuses, ends, moved_on}
+use Rattle.http_wire.proofs.StreamLaws.{finds, refuses, ends, moved_on, head_minor, number_known}
 use Rattle.http_wire.proofs.HeadLaws.{head_is_some}
 use Rattle.http_wire.proofs.reading.read_head.Goals as goal
 
@@ -50,3 +50,9 @@ returns-in-Whole-clause-progress g c =
     let more = moved_on c.args.feed.now c.loop-head.feed c.skip.new.self count c.loop-head.invariant.2 c.judge.ensures.bounded some judged.5
     (c.skip.ensures.pending ∙ ap (λ (v : Flow). drop count v.pending) kept) (c.skip.ensures.taken ∙ ap (λ (v : Flow). v.taken) kept) in
     omega (arith, more)
+
+pub returns-in-Whole-clause-minor : goal.returns-in-Whole-clause-minor
+returns-in-Whole-clause-minor g c = head_minor c.loop-head.feed.pending c.in-Whole.head c.in-Whole.count c.in-Whole.ensures.judged
+
+pub returns-in-Bad-clause-refusal : goal.returns-in-Bad-clause-refusal
+returns-in-Bad-clause-refusal g c = number_known c.in-Bad.why c.number.result c.number.ensures

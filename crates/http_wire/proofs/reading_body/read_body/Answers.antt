@@ -1,9 +1,9 @@
 use Rattle.std.proofs.Common.{◌∙◌, ◌≤◌, ◌<◌, ap, sym, subst, arith}
 use Rattle.http_wire.specs.declared.body.BodyState.{BodyState}
-use Rattle.http_wire.specs.Bodies.{due, less, Advances}
-use Rattle.http_wire.specs.BodyAnswers.{given, count_of, IsEndOf}
+use Rattle.http_wire.specs.Bodies.{due, less, Moves}
+use Rattle.http_wire.specs.BodyAnswers.{given, count_of, IsStopOf}
 use Rattle.http_wire.specs.Flow.{stream, OnStream}
-use Rattle.http_wire.proofs.MovingLaws.{moved_in, ended_in, moved_over, ended_end, ended_cut, ended_bad}
+use Rattle.http_wire.proofs.MovingLaws.{moved_in, ended_in, moved_over}
 use Rattle.http_wire.proofs.reading_body.read_body.Goals as goal
 
 pub returns-in-Data-clause-moved : goal.returns-in-Data-clause-moved
@@ -16,7 +16,7 @@ returns-in-Data-clause-moved g c =
     let few : count_of step.result ≤ due now = omega (arith, step.ensures.few, c.in-Data.ensures.left.0) in
     let moved = moved_in c.args.body.now.state now old (stream c.reach_data.new.feed (S c.reach_data.new.source)) new c.reach_data.ensures.moved
     step.result step.new.into few step.ensures.bytes in
-    subst (λ (s : BodyState). OnStream old new (λ a b. Advances c.args.body.now.state a (given step.result step.new.into) s b)) (ap (less now) (sym c.count_of.ensures) ∙ sym c.pass.ensures) moved
+    subst (λ (s : BodyState). OnStream old new (λ a b. Moves c.args.body.now.state a (given step.result step.new.into) s b)) (ap (less now) (sym c.count_of.ensures) ∙ sym c.pass.ensures) moved
 
 pub returns-in-Data-clause-ended : goal.returns-in-Data-clause-ended
 returns-in-Data-clause-ended g c =
@@ -28,37 +28,22 @@ returns-in-Data-clause-ended g c =
     let some : 0 < due now = omega (arith, c.in-Data.ensures.left.0, c.in-Data.ensures.left.1) in
     let ended = ended_in c.args.body.now.state now old (stream c.reach_data.new.feed (S c.reach_data.new.source)) new c.reach_data.ensures.moved
     step.result step.new.into some step.ensures.bytes in
-    subst (λ (s : BodyState). OnStream old new (λ a b. IsEndOf step.result s b)) (ap (less now) (sym c.count_of.ensures) ∙ sym c.pass.ensures) ended
+    subst (λ (s : BodyState). OnStream old new (λ a b. IsStopOf step.result s b)) (ap (less now) (sym c.count_of.ensures) ∙ sym c.pass.ensures) ended
 
 pub returns-in-End-clause-moved : goal.returns-in-End-clause-moved
 returns-in-End-clause-moved g c =
     moved_over c.args.body.now.state c.reach_data.new.body.state (stream c.args.feed.now (g.S.Source.left c.args.source.now)) (stream c.reach_data.new.feed (g.S.Source.left c.reach_data.new.source))
     c.reach_data.ensures.moved
 
-pub returns-in-End-clause-ended : goal.returns-in-End-clause-ended
-returns-in-End-clause-ended g c =
-    ended_end c.args.body.now.state c.reach_data.new.body.state (stream c.args.feed.now (g.S.Source.left c.args.source.now)) (stream c.reach_data.new.feed (g.S.Source.left c.reach_data.new.source))
-    c.reach_data.ensures.moved c.in-End.ensures.stopped
-
 pub returns-in-Cut-clause-moved : goal.returns-in-Cut-clause-moved
 returns-in-Cut-clause-moved g c =
     moved_over c.args.body.now.state c.reach_data.new.body.state (stream c.args.feed.now (g.S.Source.left c.args.source.now)) (stream c.reach_data.new.feed (g.S.Source.left c.reach_data.new.source))
     c.reach_data.ensures.moved
 
-pub returns-in-Cut-clause-ended : goal.returns-in-Cut-clause-ended
-returns-in-Cut-clause-ended g c =
-    ended_cut c.args.body.now.state c.reach_data.new.body.state (stream c.args.feed.now (g.S.Source.left c.args.source.now)) (stream c.reach_data.new.feed (g.S.Source.left c.reach_data.new.source))
-    c.reach_data.ensures.moved c.in-Cut.ensures.stopped
-
 pub returns-in-Bad-clause-moved : goal.returns-in-Bad-clause-moved
 returns-in-Bad-clause-moved g c =
     moved_over c.args.body.now.state c.reach_data.new.body.state (stream c.args.feed.now (g.S.Source.left c.args.source.now)) (stream c.reach_data.new.feed (g.S.Source.left c.reach_data.new.source))
     c.reach_data.ensures.moved
-
-pub returns-in-Bad-clause-ended : goal.returns-in-Bad-clause-ended
-returns-in-Bad-clause-ended g c =
-    ended_bad c.args.body.now.state c.reach_data.new.body.state (stream c.args.feed.now (g.S.Source.left c.args.source.now)) (stream c.reach_data.new.feed (g.S.Source.left c.reach_data.new.source))
-    c.reach_data.ensures.moved c.in-Bad.ensures.stopped
 
 pub returns-in-SourceFault-clause-moved : goal.returns-in-SourceFault-clause-moved
 returns-in-SourceFault-clause-moved g c =

@@ -1,7 +1,7 @@
 use Rattle.std.proofs.Common.{◌≡◌, ◌+◌, ◌≤◌}
-use Rattle.http_wire.specs.Filling.{held}
+use Rattle.http_wire.specs.Filling.{held, Extends}
 use Rattle.http_wire.specs.Flow.{stream, OnStream, Counts}
-use Rattle.http_wire.proofs.StagingLaws.{Filled}
+use Rattle.http_wire.proofs.StagingLaws.{Filled, Leaves}
 use Rattle.http_wire.proofs.taking.take_body.Given as goal
 
 -- what was staged is what the reader moved on over, and so much room is left
@@ -16,6 +16,9 @@ invariant-loop-left g l =
     × (g.S.Source.faults l.initial.source ≤ g.S.Source.faults l.source)
     × (g.T.Stage.faults l.initial.stage ≤ g.T.Stage.faults l.stage)
     × Counts l.initial.feed (g.S.Source.given l.initial.source) l.feed (g.S.Source.given l.source)
+    × Extends (held (g.T.Stage.tells l.initial.stage) (g.T.Stage.staged l.initial.stage) (g.T.Stage.bytes l.initial.stage))
+    (held (g.T.Stage.tells l.stage) (g.T.Stage.staged l.stage) (g.T.Stage.bytes l.stage))
+    × Leaves l.most l.room l.initial.body.state l.body.state
 
 -- the room that is left
 abbrev pub decreases-loop-left : goal.decreases-loop-left
