@@ -6,6 +6,7 @@ use Rattle.http_wire.specs.Bodies.{Runs, ends_before}
 use Rattle.http_wire.specs.BodyAnswers.{first_state}
 use Rattle.http_wire.specs.Heads.{Holds, is_nothing}
 use Rattle.http_wire.specs.Messages.{Message, Ending, Messages, ReadsMessage, is_last}
+use Rattle.wire_speed.specs.declared.Totals.{Totals}
 use Rattle.wire_speed.specs.declared.Next.{Next}
 use Rattle.wire_speed.specs.declared.Next.TheVariants as nexts
 
@@ -14,8 +15,8 @@ abbrev pub body_bytes : List Message → ℕ
 body_bytes messages = sum_by (λ m. length m.body) messages
 
 -- so many messages, with so many bytes of bodies
-abbrev pub IsCounted : ℕ × ℕ → List ℕ → Type 0
-IsCounted counted bytes = (messages : List Message) × (ending : Ending) × Messages bytes messages ending × (length messages ≡ counted.0) × (body_bytes messages ≡ counted.1)
+abbrev pub IsCounted : Totals → List ℕ → Type 0
+IsCounted totals bytes = (messages : List Message) × (ending : Ending) × Messages bytes messages ending × (length messages ≡ totals.requests) × (body_bytes messages ≡ totals.bytes)
 
 -- the bytes begin with a body of so many decoded bytes, and then the rest
 abbrev pub HasLength : Framing → ℕ → List ℕ → List ℕ → Type 0

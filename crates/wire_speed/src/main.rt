@@ -5,7 +5,7 @@
 //! Whoever serves a registry reads requests so.
 #![tactic(auto)]
 
-ghost use Rattle.std.specs.Prelude.{◌≡◌, ◌≤◌, IfSome};
+ghost use Rattle.std.specs.Prelude.{◌≡◌, ◌+◌, ◌≤◌, IfSome};
 ghost use Rattle.http_wire.specs.Flow.{stream, OnStream};
 ghost use Rattle.wire_speed.specs.Counting.{IsCounted, HasLength, IsNext};
 
@@ -26,6 +26,31 @@ const ROOM: usize = 16_384;
 // The most bytes of one body that is staged.
 const MOST: u64 = 1 << 62;
 
+/// How many requests there are, and how many bytes their bodies have.
+#[derive(Clone, Copy, Debug)]
+struct Totals {
+    requests: u64,
+    bytes: u64,
+}
+
+impl Totals {
+    const NONE: Totals = Totals {
+        requests: 0,
+        bytes: 0,
+    };
+
+    // With one request more, whose body has so many bytes.
+    fn with(self, length: u64) -> Option<Totals>
+        ensures requests { IfSome result (λ more. more.requests ≡ self.requests + 1) }
+        ensures bytes { IfSome result (λ more. more.bytes ≡ self.bytes + length) }
+    {
+        Some(Totals {
+            requests: self.requests.checked_add(1)?,
+            bytes: self.bytes.checked_add(length)?,
+        })
+    }
+}
+
 /// What becomes of a body.
 #[derive(Clone, Copy, Debug)]
 enum Way {
@@ -37,7 +62,9 @@ enum Way {
 
 fn main(rt: HostRuntime) -> ExitCode {
     match counted(&rt) {
-        Some((requests, bytes)) => match println!(rt; "{requests} requests, {bytes} bytes") {
+        Some(Totals { requests, bytes }) => match println!(rt;
+            "{requests} requests, {bytes} bytes"
+        ) {
             Ok(()) => ExitCode::SUCCESS,
             Err(_) => ExitCode::FAILURE,
         },
@@ -45,13 +72,13 @@ fn main(rt: HostRuntime) -> ExitCode {
     }
 }
 
-// How many requests and bytes the input has.
-fn counted(rt: &HostRuntime) -> Option<(u64, u64)> {
+// What is counted of the input, in the way that the command line names.
+fn counted(rt: &HostRuntime) -> Option<Totals> {
     let way = env::args(rt).ok()?.nth(1)?;
     let mut source = input(rt)?;
     let mut room = vec![in rt.alloc(); 0u8; ROOM].ok()?;
     match way.as_str() {
-        "input" => Some((0, 0)),
+        "input" => Some(Totals::NONE),
         "copy" => copied(&mut source, &mut room),
         "read" => read_all(rt.alloc(), &mut source, Way::Read, &mut room),
         "stage" => read_all(rt.alloc(), &mut source, Way::Stage, &mut room),
@@ -59,12 +86,7 @@ fn counted(rt: &HostRuntime) -> Option<(u64, u64)> {
     }
 }
 
-fn read_all(
-    alloc: Global,
-    source: &mut MemSource,
-    way: Way,
-    room: &mut [u8],
-) -> Option<(u64, u64)> {
+fn read_all(alloc: Global, source: &mut MemSource, way: Way, room: &mut [u8]) -> Option<Totals> {
     let mut feed = Feed::new(alloc).ok()?;
     requests(alloc, &mut feed, source, way, room)
 }
@@ -77,13 +99,14 @@ fn input(rt: &HostRuntime) -> Option<MemSource> {
     MemSource::new(rt.alloc(), Bytes::from_vec(bytes), pieces, fail).ok()
 }
 
-fn copied<S: Source>(source: &mut S, room: &mut [u8]) -> Option<(u64, u64)>
+// How many bytes a source gives, of no requests.
+fn copied<S: Source>(source: &mut S, room: &mut [u8]) -> Option<Totals>
     ensures later { S.faults source.old ≤ S.faults source.new }
 {
     let mut bytes = 0_u64;
     for _ in 0..u64::MAX {
         match source.read(room) {
-            Ok(0) => return Some((0, bytes)),
+            Ok(0) => return Some(Totals { requests: 0, bytes }),
             Ok(count) => bytes = bytes.saturating_add(count as u64),
             Err(_) => return None,
         }
@@ -98,21 +121,19 @@ fn requests<S: Source>(
     source: &mut S,
     way: Way,
     room: &mut [u8],
-) -> Option<(u64, u64)>
-    ensures messages { IfSome result (λ counted. OnStream (stream feed.old (S.left source.old)) (stream feed.new (S.left source.new)) (λ old new. IsCounted counted old)) }
+) -> Option<Totals>
+    ensures messages { IfSome result (λ totals. OnStream (stream feed.old (S.left source.old)) (stream feed.new (S.left source.new)) (λ old new. IsCounted totals old)) }
 {
-    let mut requests = 0_u64;
-    let mut bytes = 0_u64;
+    let mut totals = Totals::NONE;
     for _ in 0..u64::MAX {
         match read_next(alloc, feed, source, way, room)? {
-            Next::Request(count, last) => {
-                requests = requests.checked_add(1)?;
-                bytes = bytes.checked_add(count)?;
-                if last {
-                    return Some((requests, bytes));
+            Next::Request { length, is_last } => {
+                totals = totals.with(length)?;
+                if is_last {
+                    return Some(totals);
                 }
             }
-            Next::End => return Some((requests, bytes)),
+            Next::End => return Some(totals),
         }
     }
     None
@@ -121,8 +142,8 @@ fn requests<S: Source>(
 /// What comes next on a stream.
 #[derive(Clone, Copy, Debug)]
 enum Next {
-    /// A request: how many bytes its body has, and whether the connection ends behind it.
-    Request(u64, bool),
+    /// A request, whose body has so many bytes. The connection ends behind the last one.
+    Request { length: u64, is_last: bool },
     End,
 }
 
@@ -137,8 +158,9 @@ fn read_next<S: Source>(
 {
     match read_head(alloc, feed, source) {
         Heading::Head(head) => {
-            let count = body_length(alloc, feed, source, framing(&head), way, room)?;
-            Some(Next::Request(count, ends_connection(&head)))
+            let length = body_length(alloc, feed, source, framing(&head), way, room)?;
+            let is_last = ends_connection(&head);
+            Some(Next::Request { length, is_last })
         }
         Heading::End => Some(Next::End),
         _ => None,

@@ -1,4 +1,4 @@
-use Rattle.std.proofs.Common.{◌^◌, true, length}
+use Rattle.std.proofs.Common.{◌^◌, true, length, arith}
 use Rattle.depot_api.specs.MemStage.{stage_bytes}
 use Rattle.http_wire.specs.Filling.{held}
 use Rattle.http_wire.specs.Flow.{stream}
@@ -12,5 +12,6 @@ returns-in-Whole g c =
     let after = stage_bytes c.take_body.new.stage in
     record {
       body = staged_body c.args.framing c.new-2.result.state c.take_body.new.body.state (2 ^ 62) c.in-Whole.length (held true (length before) before) (held true (length after) after)
-          (stream c.args.feed.now (S c.args.source.now)) (stream c.take_body.new.feed (S c.take_body.new.source)) c.new-2.ensures c.in-Whole.ensures.answer;
+          (stream c.args.feed.now (S c.args.source.now)) (stream c.take_body.new.feed (S c.take_body.new.source)) c.new-2.ensures
+          (omega (arith, c.in-Whole.ensures.too_long, c.in-Whole.ensures.whole)) c.in-Whole.ensures.moved c.in-Whole.ensures.ended;
     }
