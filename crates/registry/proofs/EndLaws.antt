@@ -13,21 +13,23 @@ use Rattle.registry.specs.declared.reply.Reply.{Reply}
 use Rattle.registry.specs.declared.reply.Reply.TheVariants as replies
 use Rattle.registry.specs.declared.reply.Refusal.{Refusal}
 use Rattle.registry.specs.declared.reply.Refusal.TheVariants.{NameUnknown, BlobUnknown, ManifestUnknown, NotARequest, StorageFault, NoMemory}
+use Rattle.registry.specs.declared.status.Status.{Status}
+use Rattle.registry.specs.declared.status.Status.TheVariants.{Fault}
 use Rattle.registry.specs.declared.sending.Sent.{Sent}
 use Rattle.registry.specs.declared.sending.Sent.TheVariants.{Whole, BlobFault, SinkFault}
 use Rattle.registry.specs.Answers.{IsAnswer, IsRefusal, WithBytes, HasLeft}
 use Rattle.registry.specs.Replies.{wire, blob_head}
-use Rattle.registry.specs.Runs.{IsReply, IsSilent, Tells, Ends, DeliversOne, Delivers, DeliversBlob, IsNever, replied, cut, broken, unread, silent, status_of}
+use Rattle.registry.specs.Runs.{IsReply, IsSilent, IsAskless, Tells, Ends, DeliversOne, Delivers, DeliversBlob, IsNever, replied, cut, broken, unread, silent, status_of}
 use Rattle.registry.specs.Sending.{Sends, SendsBlob, Ended, sent_status}
 
 -- a reply that was sent, or cut, ends a run
-pub Ends-sent : {T E : Type 0} (IsIts : Reply (List ℕ) → Type 0) (IsQuiet : ℕ → Type 0) (source_rose depot_rose sink_rose : Type 0) (old new : Option (List ℕ)) (status : ℕ) (reply : Reply (List ℕ)) (sent : Result T E)
-    → IsIts reply → Sends old new (wire reply) sent → (IsErr sent → sink_rose) → MatchResult sent (λ _. status ≡ status_of reply) (λ _. status ≡ 5) → Ends IsIts IsQuiet source_rose depot_rose sink_rose old new status
+pub Ends-sent : {T E : Type 0} (IsIts : Reply (List ℕ) → Type 0) (IsQuiet : Status → Type 0) (source_rose depot_rose sink_rose : Type 0) (old new : Option (List ℕ)) (status : Status) (reply : Reply (List ℕ)) (sent : Result T E)
+    → IsIts reply → Sends old new (wire reply) sent → (IsErr sent → sink_rose) → MatchResult sent (λ _. status ≡ status_of reply) (λ _. status ≡ Fault) → Ends IsIts IsQuiet source_rose depot_rose sink_rose old new status
 Ends-sent IsIts IsQuiet source_rose depot_rose sink_rose old new status reply (Ok _) its sends cause is = replied reply its sends is
 Ends-sent IsIts IsQuiet source_rose depot_rose sink_rose old new status reply (Err _) its sends cause is = cut reply its sends (cause refl) is
 
 -- what is known of the reply, and of the devices, may be weakened
-pub Ends-weaker : (P Q : Reply (List ℕ) → Type 0) (S T : ℕ → Type 0) (A B C D sink_rose : Type 0) (old new : Option (List ℕ)) (status : ℕ) → ((r : Reply (List ℕ)) → P r → Q r) → ((n : ℕ) → S n → T n) → (A → B) → (C → D)
+pub Ends-weaker : (P Q : Reply (List ℕ) → Type 0) (S T : Status → Type 0) (A B C D sink_rose : Type 0) (old new : Option (List ℕ)) (status : Status) → ((r : Reply (List ℕ)) → P r → Q r) → ((n : Status) → S n → T n) → (A → B) → (C → D)
     → Ends P S A C sink_rose old new status → Ends Q T B D sink_rose old new status
 Ends-weaker P Q S T A B C D sink_rose old new status f q g h (replied reply its took is) = replied reply (f reply its) took is
 Ends-weaker P Q S T A B C D sink_rose old new status f q g h (cut reply its took rose is) = cut reply (f reply its) took rose is
@@ -36,11 +38,11 @@ Ends-weaker P Q S T A B C D sink_rose old new status f q g h (unread rose kept i
 Ends-weaker P Q S T A B C D sink_rose old new status f q g h (silent quiet kept) = silent (q status quiet) kept
 
 -- the refusal for want of memory stands in the place of any reply
-pub Delivers-instead : (IsIts : Reply (List ℕ) → Type 0) (blob_rose sink_rose : Type 0) (old new : Option (List ℕ)) (status : ℕ) → Delivers (replies.Refused NoMemory) sink_rose old new status → DeliversOne IsIts blob_rose sink_rose old new status
+pub Delivers-instead : (IsIts : Reply (List ℕ) → Type 0) (blob_rose sink_rose : Type 0) (old new : Option (List ℕ)) (status : Status) → Delivers (replies.Refused NoMemory) sink_rose old new status → DeliversOne IsIts blob_rose sink_rose old new status
 Delivers-instead IsIts blob_rose sink_rose old new status h = Ends-weaker _ _ _ _ ⊥ ⊥ ⊥ blob_rose sink_rose old new status (λ r is. inr (⊎_elim (λ e. e) (λ e. e) is)) (λ n never. never) (λ n. n) (λ n. absurd n) h
 
 -- a run ends as one of its replies was delivered
-pub Ends-delivered : (P IsIts : Reply (List ℕ) → Type 0) (IsQuiet : ℕ → Type 0) (source_rose blob_rose depot_rose sink_rose : Type 0) (old new : Option (List ℕ)) (status : ℕ) → ((r : Reply (List ℕ)) → P r → IsIts r) → IsIts (replies.Refused NoMemory) → (blob_rose → depot_rose)
+pub Ends-delivered : (P IsIts : Reply (List ℕ) → Type 0) (IsQuiet : Status → Type 0) (source_rose blob_rose depot_rose sink_rose : Type 0) (old new : Option (List ℕ)) (status : Status) → ((r : Reply (List ℕ)) → P r → IsIts r) → IsIts (replies.Refused NoMemory) → (blob_rose → depot_rose)
     → DeliversOne P blob_rose sink_rose old new status → Ends IsIts IsQuiet source_rose depot_rose sink_rose old new status
 Ends-delivered P IsIts IsQuiet source_rose blob_rose depot_rose sink_rose old new status its free rose h =
     Ends-weaker _ IsIts _ IsQuiet ⊥ source_rose blob_rose depot_rose sink_rose old new status (λ r is. ⊎_elim (its r) (λ e. subst IsIts (sym e) free) is) (λ n never. absurd never) (λ n. absurd n) rose h
@@ -50,14 +52,14 @@ Ends-delivered P IsIts IsQuiet source_rose blob_rose depot_rose sink_rose old ne
 one_of : {B : Type 0} (Has : B → List ℕ → Type 0) (digest : List ℕ) (blob : B) (body : List ℕ) → Has blob body → WithBytes Has (replies.Blob digest blob) (replies.Blob digest body)
 one_of Has digest blob body h = (body, h, refl)
 
-ends_blob : {B : Type 0} (Has : B → List ℕ → Type 0) (digest : List ℕ) (blob : B) (blob_rose sink_rose : Type 0) (old new : Option (List ℕ)) (status : ℕ) (body : List ℕ) (sent : Sent) → Has blob body → Ended old new (blob_head digest (length body)) body sent
+ends_blob : {B : Type 0} (Has : B → List ℕ → Type 0) (digest : List ℕ) (blob : B) (blob_rose sink_rose : Type 0) (old new : Option (List ℕ)) (status : Status) (body : List ℕ) (sent : Sent) → Has blob body → Ended old new (blob_head digest (length body)) body sent
     → (sent ≡ BlobFault → blob_rose) → (sent ≡ SinkFault → sink_rose) → status ≡ sent_status sent → DeliversOne (WithBytes Has (replies.Blob digest blob)) blob_rose sink_rose old new status
 ends_blob Has digest blob blob_rose sink_rose old new status body Whole has ended b s is = replied (replies.Blob digest body) (inl (one_of Has digest blob body has)) ended is
 ends_blob Has digest blob blob_rose sink_rose old new status body BlobFault has ended b s is = broken digest body (inl (one_of Has digest blob body has)) ended (b refl) is
 ends_blob Has digest blob blob_rose sink_rose old new status body SinkFault has ended b s is = cut (replies.Blob digest body) (inl (one_of Has digest blob body has)) ended (s refl) is
 
 -- a blob that was sent behind its head, as far as it went, ends a run
-pub Delivers-blob : {B : Type 0} (tells : B → Bool) (left : B → ℕ) (told : B → List ℕ) (digest : List ℕ) (blob : B) (blob_rose sink_rose : Type 0) (old new : Option (List ℕ)) (status : ℕ) (sent : Sent)
+pub Delivers-blob : {B : Type 0} (tells : B → Bool) (left : B → ℕ) (told : B → List ℕ) (digest : List ℕ) (blob : B) (blob_rose sink_rose : Type 0) (old new : Option (List ℕ)) (status : Status) (sent : Sent)
     → SendsBlob (tells blob) (left blob) (told blob) (blob_head digest (left blob)) old new sent → (sent ≡ BlobFault → blob_rose) → (sent ≡ SinkFault → sink_rose) → status ≡ sent_status sent → DeliversBlob tells left told digest blob blob_rose sink_rose old new status
 Delivers-blob tells left told digest blob blob_rose sink_rose old new status sent h b s is =
     let ended : Ended old new (blob_head digest (length h.body)) h.body sent = subst (λ n. Ended old new (blob_head digest n) h.body sent) (sym h.of_blob.0) h.ended in
@@ -75,7 +77,7 @@ pub rose_after : (start now after : ℕ) → Rose start now → now ≤ after �
 rose_after start now after rose later = omega (arith, later, rose)
 
 -- the faults of a blob that was given back are those of its depot
-pub Delivers-done : {B : Type 0} (tells : B → Bool) (left : B → ℕ) (told : B → List ℕ) (digest : List ℕ) (blob : B) (blob_rose depot_rose sink_rose : Type 0) (old new : Option (List ℕ)) (status : ℕ) → (blob_rose → depot_rose)
+pub Delivers-done : {B : Type 0} (tells : B → Bool) (left : B → ℕ) (told : B → List ℕ) (digest : List ℕ) (blob : B) (blob_rose depot_rose sink_rose : Type 0) (old new : Option (List ℕ)) (status : Status) → (blob_rose → depot_rose)
     → DeliversBlob tells left told digest blob blob_rose sink_rose old new status → DeliversBlob tells left told digest blob depot_rose sink_rose old new status
 Delivers-done tells left told digest blob blob_rose depot_rose sink_rose old new status rose h = Ends-weaker _ _ _ _ ⊥ ⊥ blob_rose depot_rose sink_rose old new status (λ r is. is) (λ n never. never) (λ n. n) rose h
 
@@ -137,7 +139,12 @@ reads_none None a is h = h
 reads_none (Some input) a is h = subst (Reads input) is h
 
 -- a run that served what an input asks for ends as one on that input
-pub Ends-served : (tells : Bool) (files : Files) (left : Option (List ℕ)) (ask : Ask) (source_rose depot_rose sink_rose : Type 0) (old new : Option (List ℕ)) (status : ℕ) → Tells left (λ input. BeginsWith input ask) → Ends (IsAnswer tells files depot_rose ask) IsNever ⊥ depot_rose sink_rose old new status
-    → Ends (IsReply tells files depot_rose left) (IsSilent left) source_rose depot_rose sink_rose old new status
-Ends-served tells files left ask source_rose depot_rose sink_rose old new status asked h =
+pub Ends-served : (tells : Bool) (files : Files) (left left' : Option (List ℕ)) (ask : Ask) (source_rose depot_rose sink_rose : Type 0) (old new : Option (List ℕ)) (status : Status) → Tells left (λ input. BeginsWith input ask) → Ends (IsAnswer tells files depot_rose ask) IsNever ⊥ depot_rose sink_rose old new status
+    → Ends (IsReply tells files depot_rose left) (IsSilent left left') source_rose depot_rose sink_rose old new status
+Ends-served tells files left left' ask source_rose depot_rose sink_rose old new status asked h =
     Ends-weaker _ _ _ _ ⊥ source_rose depot_rose depot_rose sink_rose old new status (reply_of tells files depot_rose left ask asked) (λ n never. absurd never) (λ n. absurd n) (λ rose. rose) h
+
+-- an input that asks for something is not one that asks for nothing
+pub asks_something : (left : Option (List ℕ)) (ask : Ask) → Tells left (λ input. BeginsWith input ask) → ¬ IsAskless left
+asks_something None ask asked askless = askless
+asks_something (Some input) ask asked askless = askless ask asked

@@ -1,5 +1,5 @@
 -- An input has one reply, and one that is empty or cut has none.
-use Rattle.std.proofs.Common.{◌≡◌, ◌≢◌, ℕ, true, List, length, Some, None, refl, sym, ap, ◌∙◌, subst, inl, inr}
+use Rattle.std.proofs.Common.{◌≡◌, ◌≢◌, ℕ, true, List, length, Option, Some, None, refl, sym, ap, ◌∙◌, subst, inl, inr}
 use Rattle.std.specs.Prelude.{IsSome}
 use Rattle.reg_names.specs.declared.reference.Reference.{Reference}
 use Rattle.reg_entries.specs.State.{IsKnown}
@@ -16,7 +16,8 @@ use Rattle.registry.specs.declared.reply.Reply.{Reply}
 use Rattle.registry.specs.declared.reply.Reply.TheVariants as replies
 use Rattle.registry.specs.declared.reply.Refusal.{Refusal}
 use Rattle.registry.specs.declared.reply.Refusal.TheVariants.{NameUnknown, BlobUnknown, ManifestUnknown, NotARequest, StorageFault, NoMemory}
-use Rattle.registry.specs.Answers.{IsAnswer, IsRefusal, Lacks, HasManifest, HasBlob, HasTags}
+use Rattle.registry.specs.declared.status.Status.{Status}
+use Rattle.registry.specs.Answers.{IsAnswer, IsRefusal, LacksBlob, LacksManifest, HasManifest, HasBlob, HasTags}
 use Rattle.registry.specs.Runs.{IsReply, IsSilent, nothing, inside}
 
 some_same : {A : Type 0} (x y : A) → Some x ≡ Some y → x ≡ y
@@ -42,7 +43,7 @@ known_by_blob files name digest bytes p = inr (digest, subst IsSome (sym p.linke
 -- what is there is not refused
 found_manifest : (files : Files) (name : List ℕ) (reference : Reference) (m : StoredManifest) (r : Refusal) → HasManifest files name reference m → IsRefusal true files ⊥ (asks.Manifest name reference) r → r ≢ NoMemory → ⊥
 found_manifest files name reference m NameUnknown p h n = h refl (known_by_manifest files name reference m p)
-found_manifest files name reference m BlobUnknown p h n = h refl
+found_manifest files name reference m BlobUnknown p h n = h
 found_manifest files name reference m ManifestUnknown p h n = let none = (h refl).1 in cc (p.digest, none)
 found_manifest files name reference m NotARequest p h n = h
 found_manifest files name reference m StorageFault p h n = h
@@ -51,37 +52,32 @@ found_manifest files name reference m NoMemory p h n = n refl
 found_blob : (files : Files) (name digest bytes : List ℕ) (r : Refusal) → HasBlob files name digest bytes → IsRefusal true files ⊥ (asks.Blob name digest) r → r ≢ NoMemory → ⊥
 found_blob files name digest bytes NameUnknown p h n = h refl (known_by_blob files name digest bytes p)
 found_blob files name digest bytes BlobUnknown p h n = let none = (h refl).1 in cc (p.linked, none)
-found_blob files name digest bytes ManifestUnknown p h n = h refl
+found_blob files name digest bytes ManifestUnknown p h n = h
 found_blob files name digest bytes NotARequest p h n = h
 found_blob files name digest bytes StorageFault p h n = h
 found_blob files name digest bytes NoMemory p h n = n refl
 
 found_tags : (files : Files) (name : List ℕ) (tags : List (List ℕ)) (r : Refusal) → HasTags files name tags → IsRefusal true files ⊥ (asks.Tags name) r → r ≢ NoMemory → ⊥
 found_tags files name tags NameUnknown p h n = h refl p.known
-found_tags files name tags BlobUnknown p h n = h refl
-found_tags files name tags ManifestUnknown p h n = h refl
+found_tags files name tags BlobUnknown p h n = h
+found_tags files name tags ManifestUnknown p h n = h
 found_tags files name tags NotARequest p h n = h
 found_tags files name tags StorageFault p h n = h
 found_tags files name tags NoMemory p h n = n refl
 
 -- a repository that lacks what is asked for is known
-lacks_known : (files : Files) (ask : Ask) (r : Refusal) → Lacks files ask r → ¬ IsRefusal true files ⊥ ask NameUnknown
-lacks_known files (asks.Manifest name reference) ManifestUnknown h k = k refl h.0
-lacks_known files (asks.Manifest name reference) NameUnknown h k = h
-lacks_known files (asks.Manifest name reference) BlobUnknown h k = h
-lacks_known files (asks.Manifest name reference) NotARequest h k = h
-lacks_known files (asks.Manifest name reference) StorageFault h k = h
-lacks_known files (asks.Manifest name reference) NoMemory h k = h
-lacks_known files (asks.Blob name digest) BlobUnknown h k = k refl h.0
-lacks_known files (asks.Blob name digest) NameUnknown h k = h
-lacks_known files (asks.Blob name digest) ManifestUnknown h k = h
-lacks_known files (asks.Blob name digest) NotARequest h k = h
-lacks_known files (asks.Blob name digest) StorageFault h k = h
-lacks_known files (asks.Blob name digest) NoMemory h k = h
-lacks_known files (asks.Tags name) r h k = h
+known_without_blob : (files : Files) (ask : Ask) → LacksBlob true files ask → ¬ IsRefusal true files ⊥ ask NameUnknown
+known_without_blob files (asks.Manifest name reference) h k = h
+known_without_blob files (asks.Blob name digest) h k = k refl (h refl).0
+known_without_blob files (asks.Tags name) h k = h
+
+known_without_manifest : (files : Files) (ask : Ask) → LacksManifest true files ask → ¬ IsRefusal true files ⊥ ask NameUnknown
+known_without_manifest files (asks.Manifest name reference) h k = k refl (h refl).0
+known_without_manifest files (asks.Blob name digest) h k = h
+known_without_manifest files (asks.Tags name) h k = h
 
 -- nothing is lacked as a blob and as a manifest
-lacks_one : (files : Files) (ask : Ask) → Lacks files ask BlobUnknown → Lacks files ask ManifestUnknown → ⊥
+lacks_one : (files : Files) (ask : Ask) → LacksBlob true files ask → LacksManifest true files ask → ⊥
 lacks_one files (asks.Manifest name reference) h k = h
 lacks_one files (asks.Blob name digest) h k = k
 lacks_one files (asks.Tags name) h k = h
@@ -91,19 +87,19 @@ one_refusal files ask NotARequest s h k n o = absurd h
 one_refusal files ask StorageFault s h k n o = absurd h
 one_refusal files ask NoMemory s h k n o = absurd (n refl)
 one_refusal files ask NameUnknown NameUnknown h k n o = refl
-one_refusal files ask NameUnknown BlobUnknown h k n o = absurd (lacks_known files ask BlobUnknown (k refl) h)
-one_refusal files ask NameUnknown ManifestUnknown h k n o = absurd (lacks_known files ask ManifestUnknown (k refl) h)
+one_refusal files ask NameUnknown BlobUnknown h k n o = absurd (known_without_blob files ask k h)
+one_refusal files ask NameUnknown ManifestUnknown h k n o = absurd (known_without_manifest files ask k h)
 one_refusal files ask NameUnknown NotARequest h k n o = absurd k
 one_refusal files ask NameUnknown StorageFault h k n o = absurd k
 one_refusal files ask NameUnknown NoMemory h k n o = absurd (o refl)
-one_refusal files ask BlobUnknown NameUnknown h k n o = absurd (lacks_known files ask BlobUnknown (h refl) k)
+one_refusal files ask BlobUnknown NameUnknown h k n o = absurd (known_without_blob files ask h k)
 one_refusal files ask BlobUnknown BlobUnknown h k n o = refl
-one_refusal files ask BlobUnknown ManifestUnknown h k n o = absurd (lacks_one files ask (h refl) (k refl))
+one_refusal files ask BlobUnknown ManifestUnknown h k n o = absurd (lacks_one files ask h k)
 one_refusal files ask BlobUnknown NotARequest h k n o = absurd k
 one_refusal files ask BlobUnknown StorageFault h k n o = absurd k
 one_refusal files ask BlobUnknown NoMemory h k n o = absurd (o refl)
-one_refusal files ask ManifestUnknown NameUnknown h k n o = absurd (lacks_known files ask ManifestUnknown (h refl) k)
-one_refusal files ask ManifestUnknown BlobUnknown h k n o = absurd (lacks_one files ask (k refl) (h refl))
+one_refusal files ask ManifestUnknown NameUnknown h k n o = absurd (known_without_manifest files ask h k)
+one_refusal files ask ManifestUnknown BlobUnknown h k n o = absurd (lacks_one files ask k h)
 one_refusal files ask ManifestUnknown ManifestUnknown h k n o = refl
 one_refusal files ask ManifestUnknown NotARequest h k n o = absurd k
 one_refusal files ask ManifestUnknown StorageFault h k n o = absurd k
@@ -116,9 +112,9 @@ one_listing : (files : Files) (name of of' : List ℕ) (tags tags' : List (List 
 one_listing files name of of' tags tags' e f g h = let same = (listing_alone (Means files) name None None tags tags' None None g.listing h.listing).0 in cc (e, f, same)
 
 one_answer : (files : Files) (ask : Ask) (r s : Reply (List ℕ)) → IsAnswer true files ⊥ ask r → IsAnswer true files ⊥ ask s → r ≢ replies.Refused NoMemory → s ≢ replies.Refused NoMemory → r ≡ s
-one_answer files (asks.Manifest name reference) (replies.Manifest m) (replies.Manifest w) h k n o = ap replies.Manifest (one_manifest files name reference m w (h refl) (k refl))
-one_answer files (asks.Manifest name reference) (replies.Manifest m) (replies.Refused s) h k n o = absurd (found_manifest files name reference m s (h refl) k (λ e. o (ap replies.Refused e)))
-one_answer files (asks.Manifest name reference) (replies.Refused r) (replies.Manifest w) h k n o = absurd (found_manifest files name reference w r (k refl) h (λ e. n (ap replies.Refused e)))
+one_answer files (asks.Manifest name reference) (replies.Manifest m) (replies.Manifest w) h k n o = ap replies.Manifest (one_manifest files name reference m w (h.told refl) (k.told refl))
+one_answer files (asks.Manifest name reference) (replies.Manifest m) (replies.Refused s) h k n o = absurd (found_manifest files name reference m s (h.told refl) k (λ e. o (ap replies.Refused e)))
+one_answer files (asks.Manifest name reference) (replies.Refused r) (replies.Manifest w) h k n o = absurd (found_manifest files name reference w r (k.told refl) h (λ e. n (ap replies.Refused e)))
 one_answer files (asks.Manifest name reference) (replies.Refused r) (replies.Refused s) h k n o = ap replies.Refused (one_refusal files (asks.Manifest name reference) r s h k (λ e. n (ap replies.Refused e)) (λ e. o (ap replies.Refused e)))
 one_answer files (asks.Manifest name reference) (replies.Blob of bytes) s h k n o = absurd h
 one_answer files (asks.Manifest name reference) (replies.Tags of tags) s h k n o = absurd h
@@ -182,12 +178,12 @@ same_which files input r s (some a h x) (some b k y) n o = same_ask files input 
 pub one_reply : (files : Files) (input : List ℕ) (r s : Reply (List ℕ)) → IsReply true files ⊥ (Some input) r → IsReply true files ⊥ (Some input) s → r ≢ replies.Refused NoMemory → s ≢ replies.Refused NoMemory → r ≡ s
 one_reply files input r s h k n o = same_which files input r s (which files input r h) (which files input s k) n o
 
-silent_which : (files : Files) (input : List ℕ) (status : ℕ) (r : Reply (List ℕ)) → IsSilent (Some input) status → Which files input r → r ≡ replies.Refused NoMemory
-silent_which files input status r silent (free e) = e
-silent_which files input status r (nothing empty is) (none e h) = absurd (cc (one_reading input asked.Nothing asked.NoRequest empty h))
-silent_which files input status r (inside cut is) (none e h) = absurd (cc (one_reading input asked.Cut asked.NoRequest cut h))
-silent_which files input status r (nothing empty is) (some a h x) = absurd (cc (one_reading input asked.Nothing (asked.Pull a) empty h))
-silent_which files input status r (inside cut is) (some a h x) = absurd (cc (one_reading input asked.Cut (asked.Pull a) cut h))
+silent_which : (files : Files) (input : List ℕ) (new : Option (List ℕ)) (status : Status) (r : Reply (List ℕ)) → IsSilent (Some input) new status → Which files input r → r ≡ replies.Refused NoMemory
+silent_which files input new status r silent (free e) = e
+silent_which files input new status r (nothing empty ended is) (none e h) = absurd (cc (one_reading input asked.Nothing asked.NoRequest empty h))
+silent_which files input new status r (inside cut ended is) (none e h) = absurd (cc (one_reading input asked.Cut asked.NoRequest cut h))
+silent_which files input new status r (nothing empty ended is) (some a h x) = absurd (cc (one_reading input asked.Nothing (asked.Pull a) empty h))
+silent_which files input new status r (inside cut ended is) (some a h x) = absurd (cc (one_reading input asked.Cut (asked.Pull a) cut h))
 
-pub no_reply : (files : Files) (input : List ℕ) (status : ℕ) (r : Reply (List ℕ)) → IsSilent (Some input) status → IsReply true files ⊥ (Some input) r → r ≡ replies.Refused NoMemory
-no_reply files input status r silent h = silent_which files input status r silent (which files input r h)
+pub no_reply : (files : Files) (input : List ℕ) (new : Option (List ℕ)) (status : Status) (r : Reply (List ℕ)) → IsSilent (Some input) new status → IsReply true files ⊥ (Some input) r → r ≡ replies.Refused NoMemory
+no_reply files input new status r silent h = silent_which files input new status r silent (which files input r h)

@@ -5,6 +5,7 @@ use Rattle.reg_names.specs.declared.reference.Reference.TheVariants as reference
 use Rattle.reg_entries.specs.State.{State, IsKnown}
 use Rattle.reg_entries.specs.Listing.{IsListing}
 use Rattle.depot_api.specs.Files.{Files}
+use Rattle.link_reading.specs.Answers.{IsGenuine}
 use Rattle.link_reading.specs.Meaning.{Means, kept, data_at}
 use Rattle.link_reading.specs.declared.manifests.StoredManifest.{StoredManifest}
 use Rattle.pull_reading.specs.declared.ask.Ask.{Ask}
@@ -31,6 +32,18 @@ pub record HasManifest (files : Files) (name : List ℕ) (reference : Reference)
   pub manifest : (Means files).manifests name m.digest ≡ Some (kept (length m.bytes) m.doc)
   pub bytes : data_at files m.digest ≡ Some m.bytes
 
+-- by the digest that was asked for a manifest has that digest; by a tag it may have any
+abbrev pub IsReferred : Reference → StoredManifest → Type 0
+IsReferred (references.Tag tag) m = Unit {0}
+IsReferred (references.Digest digest) m = m.digest ≡ digest
+
+-- the manifest is answered: its bytes hash to its digest and its document is theirs, over every depot, and by the files
+-- of one that tells them it is the one under the reference
+pub record GivesManifest (tells : Bool) (files : Files) (name : List ℕ) (reference : Reference) (m : StoredManifest) : Type 0 where
+  pub genuine : IsGenuine m
+  pub referred : IsReferred reference m
+  pub told : IsTrue tells → HasManifest files name reference m
+
 -- by the files, the repository has the blob with this digest, and these are its bytes
 pub record HasBlob (files : Files) (name digest bytes : List ℕ) : Type 0 where
   pub linked : (Means files).links name digest ≡ Some (length bytes)
@@ -41,25 +54,29 @@ pub record HasTags (files : Files) (name : List ℕ) (tags : List (List ℕ)) : 
   pub known : IsKnown (Means files) name
   pub listing : IsListing (Means files) name None None tags None
 
--- by the files, the repository is known and has nothing of the kind that is asked for
-abbrev pub Lacks : Files → Ask → Refusal → Type 0
-Lacks files (asks.Manifest name reference) ManifestUnknown = IsKnown (Means files) name × (referred (Means files) name reference ≡ None)
-Lacks files (asks.Blob name digest) BlobUnknown = IsKnown (Means files) name × ((Means files).links name digest ≡ None)
-Lacks files ask refusal = ⊥
+-- a blob was asked for, and by the files the repository is known and has no blob with the digest
+abbrev pub LacksBlob : Bool → Files → Ask → Type 0
+LacksBlob tells files (asks.Blob name digest) = IsTrue tells → IsKnown (Means files) name × ((Means files).links name digest ≡ None)
+LacksBlob tells files ask = ⊥
+
+-- a manifest was asked for, and by the files the repository is known and has no manifest under the reference
+abbrev pub LacksManifest : Bool → Files → Ask → Type 0
+LacksManifest tells files (asks.Manifest name reference) = IsTrue tells → IsKnown (Means files) name × (referred (Means files) name reference ≡ None)
+LacksManifest tells files ask = ⊥
 
 -- This refusal is the answer, over a depot of which it is known whether it tells its files, what they are, and whether
 -- its count of faults rose. Want of memory alone is free.
 abbrev pub IsRefusal : Bool → Files → Type 0 → Ask → Refusal → Type 0
 IsRefusal tells files rose ask NameUnknown = IsTrue tells → ¬ IsKnown (Means files) (repository ask)
-IsRefusal tells files rose ask BlobUnknown = (IsTrue tells → Lacks files ask BlobUnknown)
-IsRefusal tells files rose ask ManifestUnknown = (IsTrue tells → Lacks files ask ManifestUnknown)
+IsRefusal tells files rose ask BlobUnknown = LacksBlob tells files ask
+IsRefusal tells files rose ask ManifestUnknown = LacksManifest tells files ask
 IsRefusal tells files rose ask NotARequest = ⊥
 IsRefusal tells files rose ask StorageFault = rose
 IsRefusal tells files rose ask NoMemory = Unit {0}
 
 -- this reply is the answer
 abbrev pub IsAnswer : Bool → Files → Type 0 → Ask → Reply (List ℕ) → Type 0
-IsAnswer tells files rose (asks.Manifest name reference) (replies.Manifest m) = IsTrue tells → HasManifest files name reference m
+IsAnswer tells files rose (asks.Manifest name reference) (replies.Manifest m) = GivesManifest tells files name reference m
 IsAnswer tells files rose (asks.Blob name digest) (replies.Blob of bytes) = (of ≡ digest) × (IsTrue tells → HasBlob files name digest bytes)
 IsAnswer tells files rose (asks.Tags name) (replies.Tags of tags) = (of ≡ name) × (IsTrue tells → HasTags files name tags)
 IsAnswer tells files rose ask (replies.Refused refusal) = IsRefusal tells files rose ask refusal
@@ -68,9 +85,9 @@ IsAnswer tells files rose ask reply = ⊥
 -- ---- parts of an answer
 
 -- the manifest that the repository has under the reference, or that it has none
-abbrev pub FindsManifest : Files → List ℕ → Reference → Option StoredManifest → Type 0
-FindsManifest files name reference (Some m) = HasManifest files name reference m
-FindsManifest files name reference None = referred (Means files) name reference ≡ None
+abbrev pub FindsManifest : Bool → Files → List ℕ → Reference → Option StoredManifest → Type 0
+FindsManifest tells files name reference (Some m) = GivesManifest tells files name reference m
+FindsManifest tells files name reference None = IsTrue tells → referred (Means files) name reference ≡ None
 
 -- this refusal is the one for what the repository lacks, where the repository is known, or that it is unknown
 abbrev pub IsLack : Bool → Files → List ℕ → Refusal → Refusal → Type 0

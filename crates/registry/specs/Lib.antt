@@ -1,5 +1,6 @@
 pub mod Replies
 pub mod Answers
+pub mod Statuses
 pub mod Sending
 pub mod Runs
 pub mod Words

@@ -1,6 +1,7 @@
 -- The one spelling of each reply (RFC 9112 section 4; OCI Distribution Specification 1.1, "Pulling manifests", "Pulling
 -- blobs", "Listing Tags" and "Error Codes").
-use Rattle.std.specs.Prelude.{ℕ, Bool, true, false, List, [], ◌∷◌, ◌++◌, length, codes}
+use Rattle.std.specs.Prelude.{ℕ, List, [], ◌++◌, length, codes}
+use Rattle.std.specs.List.{join_by}
 use Rattle.std.specs.Fmt.{decimal}
 use Rattle.link_reading.specs.declared.manifests.StoredManifest.{StoredManifest}
 use Rattle.reg_names.specs.Kinds.{media_type_of}
@@ -44,18 +45,9 @@ json_reply status body = opening status (field (codes "Content-Type") (codes "ap
 abbrev pub quoted : List ℕ → List ℕ
 quoted text = codes "\"" ++ (text ++ codes "\"")
 
--- what stands before a string in a list
-abbrev pub comma_behind : Bool → List ℕ
-comma_behind true = []
-comma_behind false = codes ","
-
 -- the strings of texts with commas between them
-abbrev pub listed_behind : Bool → List (List ℕ) → List ℕ
-listed_behind is_first [] = []
-listed_behind is_first (text ∷ texts) = comma_behind is_first ++ (quoted text ++ listed_behind false texts)
-
 abbrev pub listed : List (List ℕ) → List ℕ
-listed texts = listed_behind true texts
+listed texts = join_by quoted (codes ",") texts
 
 abbrev pub tags_body : List ℕ → List (List ℕ) → List ℕ
 tags_body name tags = codes "{\"name\":\"" ++ (name ++ (codes "\",\"tags\":[" ++ (listed tags ++ codes "]}")))

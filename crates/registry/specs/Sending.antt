@@ -4,6 +4,8 @@ use Rattle.std.specs.Io.KnownBytes.{Appends}
 use Rattle.registry.specs.Answers.{HasLeft}
 use Rattle.registry.specs.declared.sending.Sent.{Sent}
 use Rattle.registry.specs.declared.sending.Sent.TheVariants.{Whole, BlobFault, SinkFault}
+use Rattle.registry.specs.declared.status.Status.{Status}
+use Rattle.registry.specs.declared.status.Status.TheVariants.{Done, Fault}
 
 -- a front of the text, and no more, was taken
 pub record TookFront (old new : Option (List ℕ)) (text : List ℕ) : Type 0 where
@@ -38,7 +40,7 @@ pub record SendsBlob (tells : Bool) (left : ℕ) (told head : List ℕ) (old new
   pub ended : Ended old new head body sent
 
 -- the status of a run that sent so much of a blob
-abbrev pub sent_status : Sent → ℕ
-sent_status Whole = 0
-sent_status BlobFault = 5
-sent_status SinkFault = 5
+abbrev pub sent_status : Sent → Status
+sent_status Whole = Done
+sent_status BlobFault = Fault
+sent_status SinkFault = Fault

@@ -99,7 +99,7 @@ fn find_manifest<D: Depot>(
     name: &Name,
     reference: &Reference,
 ) -> Result<Option<StoredManifest>, Refused>
-    ensures value { IsTrue (D.tells depot.old) → IfOk result (FindsManifest (D.files depot.old) name.now reference.now) }
+    ensures value { IfOk result (FindsManifest (D.tells depot.old) (D.files depot.old) name.now reference.now) }
     ensures files { D.files depot.new ≡ D.files depot.old }
     ensures tells { D.tells depot.new ≡ D.tells depot.old }
     ensures cause { HasCause (D.faults depot.old) (D.faults depot.new) (IsErrOf result refusals.Failed) }

@@ -3,9 +3,11 @@ ghost use Rattle.std.specs.Prelude.{◌≡◌, ◌≤◌, MatchResult};
 ghost use Rattle.reg_names.specs.Cause.{Rose};
 ghost use Rattle.registry.specs.Runs.{Delivers, DeliversBlob};
 ghost use Rattle.registry.specs.declared.reply.Reply.TheVariants as replies;
+ghost use Rattle.registry.specs.declared.status.Status.TheVariants as statuses;
 
 use crate::reply::{Refusal, blob_head, manifest_head, tags_reply};
 use crate::sending::{send_with_head, write_all, write_both};
+use crate::status::Status;
 use depot_api::{Blob, Sink, SinkFault};
 use link_reading::StoredManifest;
 use reg_entries::Tags;
@@ -16,26 +18,26 @@ use std::alloc::Global;
 const PIECE: usize = 65_536;
 
 /// Writes the reply with a manifest, and tells the status.
-pub fn deliver_manifest<O: Sink>(alloc: Global, out: &mut O, manifest: &StoredManifest) -> u8
+pub fn deliver_manifest<O: Sink>(alloc: Global, out: &mut O, manifest: &StoredManifest) -> Status
     ensures ends { Delivers (replies.Manifest manifest.now) (Rose (O.faults out.old) (O.faults out.new)) (O.taken out.old) (O.taken out.new) result }
     ensures faults { O.faults out.old ≤ O.faults out.new }
 {
     match manifest_head(alloc, manifest) {
         Ok(head) => status_after(
             write_both(out, head.as_bytes(), manifest.bytes.as_slice()),
-            0,
+            Status::Done,
         ),
         Err(_) => refuse(out, Refusal::NoMemory),
     }
 }
 
 /// Writes the reply with the tags of a repository, and tells the status.
-pub fn deliver_tags<O: Sink>(alloc: Global, out: &mut O, name: &Name, tags: &Tags) -> u8
+pub fn deliver_tags<O: Sink>(alloc: Global, out: &mut O, name: &Name, tags: &Tags) -> Status
     ensures ends { Delivers (replies.Tags name.now tags.now) (Rose (O.faults out.old) (O.faults out.new)) (O.taken out.old) (O.taken out.new) result }
     ensures faults { O.faults out.old ≤ O.faults out.new }
 {
     match tags_reply(alloc, name, tags) {
-        Ok(reply) => status_after(write_all(out, reply.as_bytes()), 0),
+        Ok(reply) => status_after(write_all(out, reply.as_bytes()), Status::Done),
         Err(_) => refuse(out, Refusal::NoMemory),
     }
 }
@@ -46,7 +48,7 @@ pub fn deliver_blob<B: Blob, O: Sink>(
     out: &mut O,
     digest: &Digest,
     blob: &mut B,
-) -> u8
+) -> Status
     ensures ends { DeliversBlob B.tells B.left B.bytes digest.now blob.old (Rose (B.faults blob.old) (B.faults blob.new)) (Rose (O.faults out.old) (O.faults out.new)) (O.taken out.old) (O.taken out.new) result }
     ensures faults { O.faults out.old ≤ O.faults out.new }
 {
@@ -58,7 +60,7 @@ pub fn deliver_blob<B: Blob, O: Sink>(
 }
 
 /// Writes a refusal, and tells the status.
-pub fn refuse<O: Sink>(out: &mut O, refusal: Refusal) -> u8
+pub fn refuse<O: Sink>(out: &mut O, refusal: Refusal) -> Status
     ensures ends { Delivers (replies.Refused refusal) (Rose (O.faults out.old) (O.faults out.new)) (O.taken out.old) (O.taken out.new) result }
     ensures faults { O.faults out.old ≤ O.faults out.new }
 {
@@ -66,11 +68,11 @@ pub fn refuse<O: Sink>(out: &mut O, refusal: Refusal) -> u8
 }
 
 // The status of a run whose reply was written, or not.
-fn status_after(written: Result<(), SinkFault>, status: u8) -> u8
-    ensures { MatchResult written (λ _. result ≡ status) (λ _. result ≡ 5) }
+fn status_after(written: Result<(), SinkFault>, status: Status) -> Status
+    ensures { MatchResult written (λ _. result ≡ status) (λ _. result ≡ statuses.Fault) }
 {
     match written {
         Ok(()) => status,
-        Err(SinkFault) => 5,
+        Err(SinkFault) => Status::Fault,
     }
 }

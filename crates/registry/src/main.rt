@@ -13,6 +13,7 @@ mod program;
 mod reply;
 mod run;
 mod sending;
+mod status;
 #[cfg(test)]
 mod tests;
 mod words;

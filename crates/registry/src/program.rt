@@ -2,6 +2,7 @@
 use crate::devices::{ReaderSource, SystemClock, SystemIds, WriterSink};
 use crate::run::{Ran, run_plain};
 use crate::sending::write_all;
+use crate::status::Status;
 use crate::words::{self, USAGE};
 use depot_files::FileDepot;
 use std::alloc::Global;
@@ -10,15 +11,19 @@ use std::io::{self, ErrorKind};
 use std::random::RandomSource;
 use std::rt::Runtime;
 
-/// Runs the program, and gives its status.
+/// Runs the program, and gives its exit status.
 pub fn run<R: Runtime + AllocGlobal + RandomSource>(rt: &R) -> u8 {
     match words_of(rt) {
         Ok(words) => match words::root(&words) {
             Some(root) => over_directory(rt, &words, root),
-            None => tell(rt, USAGE, 2),
+            None => tell(rt, USAGE, Status::Usage),
         },
-        Err(error) if error.kind() == ErrorKind::OutOfMemory => tell(rt, NO_MEMORY, 9),
-        Err(_) => tell(rt, USAGE, 2),
+        Err(error) if error.kind() == ErrorKind::OutOfMemory => tell(
+            rt,
+            NO_MEMORY,
+            Status::NoMemory,
+        ),
+        Err(_) => tell(rt, USAGE, Status::Usage),
     }
 }
 
@@ -56,13 +61,17 @@ fn over_directory<R: Runtime + AllocGlobal + RandomSource>(
             );
             status
         }
-        Err(error) if error.kind() == ErrorKind::OutOfMemory => tell(rt, NO_MEMORY, 9),
-        Err(_) => tell(rt, DEVICE_FAULT, 5),
+        Err(error) if error.kind() == ErrorKind::OutOfMemory => tell(
+            rt,
+            NO_MEMORY,
+            Status::NoMemory,
+        ),
+        Err(_) => tell(rt, DEVICE_FAULT, Status::Fault),
     }
 }
 
-// Writes a line, and gives the status of a run that ends with it.
-fn tell(rt: &impl Print, line: &str, status: u8) -> u8 {
+// Writes a line, and gives the exit status of a run that ends with it.
+fn tell(rt: &impl Print, line: &str, status: Status) -> u8 {
     let _ = write_all(&mut WriterSink::new(io::writer(rt)), line.as_bytes());
-    status
+    status.code()
 }

@@ -3,11 +3,12 @@ ghost use Rattle.std.specs.Prelude.{◌≡◌, ◌++◌, IfOk};
 ghost use Rattle.std.specs.String.{string_bytes};
 ghost use Rattle.registry.specs.declared.reply.Reply.TheVariants as replies;
 ghost use Rattle.registry.specs.Runs.{status_of};
-ghost use Rattle.registry.specs.Replies.{wire, refusal_wire, quoted, comma_behind, content_head as content_head_of, manifest_head as manifest_head_of, blob_head as blob_head_of, tags_body as tags_body_of};
+ghost use Rattle.registry.specs.Replies.{wire, refusal_wire, quoted, listed, content_head as content_head_of, manifest_head as manifest_head_of, blob_head as blob_head_of, tags_body as tags_body_of};
 
+use crate::status::Status;
 use link_reading::StoredManifest;
 use reg_entries::Tags;
-use reg_names::{Digest, Name, NoMemory, Text};
+use reg_names::{Digest, Name, NoMemory, Tag, Text};
 use std::alloc::Global;
 
 /// What a request is answered. A blob is still to be read.
@@ -58,16 +59,16 @@ impl Refusal {
     }
 
     /// The status of a run that gave this reply.
-    pub fn status(self) -> u8
+    pub fn status(self) -> Status
         ensures { result ≡ status_of (replies.Refused self) }
     {
         match self {
             Refusal::NameUnknown
             | Refusal::BlobUnknown
             | Refusal::ManifestUnknown
-            | Refusal::StorageFault => 0,
-            Refusal::NotARequest => 10,
-            Refusal::NoMemory => 9,
+            | Refusal::StorageFault => Status::Done,
+            Refusal::NotARequest => Status::NotARequest,
+            Refusal::NoMemory => Status::NoMemory,
         }
     }
 }
@@ -120,22 +121,28 @@ fn tags_body(alloc: Global, name: &Name, tags: &Tags) -> Result<String, NoMemory
 {
     let name = name.as_str();
     let mut body = format!(in alloc; "{{\"name\":\"{name}\",\"tags\":[")?;
-    let mut is_first = true;
-    for tag in tags.as_slice() {
-        push_quoted(&mut body, is_first, tag.as_str())?;
-        is_first = false;
-    }
+    push_listed(&mut body, tags.as_slice())?;
     body.push_str("]}")?;
     Ok(body)
 }
 
-// Puts a JSON string behind a text, and a comma between them where it is not the first.
-fn push_quoted(body: &mut String, is_first: bool, text: &str) -> Result<(), NoMemory>
-    ensures { IfOk result (λ _. string_bytes body.new ≡ string_bytes body.old ++ (comma_behind is_first ++ quoted text.now)) }
+// Puts JSON strings behind a text, with commas between them.
+fn push_listed(body: &mut String, tags: &[Tag]) -> Result<(), NoMemory>
+    ensures { IfOk result (λ _. string_bytes body.new ≡ string_bytes body.old ++ listed tags.now) }
 {
-    if !is_first {
-        body.push_str(",")?;
+    let mut comma = "";
+    for tag in tags {
+        body.push_str(comma)?;
+        push_quoted(body, tag.as_str())?;
+        comma = ",";
     }
+    Ok(())
+}
+
+// Puts a JSON string behind a text.
+fn push_quoted(body: &mut String, text: &str) -> Result<(), NoMemory>
+    ensures { IfOk result (λ _. string_bytes body.new ≡ string_bytes body.old ++ quoted text.now) }
+{
     body.push_str("\"")?;
     body.push_str(text)?;
     Ok(body.push_str("\"")?)

@@ -4,6 +4,7 @@ ghost use Rattle.reg_names.specs.Cause.{HasCause};
 ghost use Rattle.registry.specs.Sending.{Sends, SendsBlob, sent_status};
 ghost use Rattle.registry.specs.declared.sending.Sent.TheVariants as sent;
 
+use crate::status::Status;
 use depot_api::{Blob, Sink, SinkFault};
 
 /// Writes all of a text. Where the sink fails it took a front of it.
@@ -38,12 +39,12 @@ pub enum Sent {
 
 impl Sent {
     /// The status of a run that sent so much.
-    pub fn status(self) -> u8
+    pub fn status(self) -> Status
         ensures { result ≡ sent_status self }
     {
         match self {
-            Sent::Whole => 0,
-            Sent::BlobFault | Sent::SinkFault => 5,
+            Sent::Whole => Status::Done,
+            Sent::BlobFault | Sent::SinkFault => Status::Fault,
         }
     }
 }

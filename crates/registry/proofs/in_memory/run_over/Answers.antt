@@ -4,7 +4,7 @@ use Rattle.registry.proofs.in_memory.run_over.Goals as goal
 
 pub returns : goal.returns
 returns c = λ zero empty.
-    Answers-run _ _ _ _ _ _ _ _
+    Answers-run _ _ _ _ _ _ _ _ _
     (still _ _ (omega (arith, zero, c.faults.ensures, c.faults-2.ensures, c.faults-3.ensures, c.saturating_add.ensures, c.saturating_add-faults.ensures)))
     (still _ _ (omega (arith, zero, c.faults.ensures, c.faults-2.ensures, c.faults-3.ensures, c.saturating_add.ensures, c.saturating_add-faults.ensures)))
     (still _ _ (omega (arith, zero, c.faults.ensures, c.faults-2.ensures, c.faults-3.ensures, c.saturating_add.ensures, c.saturating_add-faults.ensures)))
