@@ -1,14 +1,19 @@
 #!/usr/bin/env bash
-# Walks by pages of 64 through 1,000, 10,000 and 100,000 files: the data files of blobs, and the tags of one
-# repository. Prints the time of a file, and the ratio to `find`, each the best of five walks.
+# Walks by pages of 64 through 1,000, 10,000 and 100,000 files, or as many as are given: the data files of blobs, and the
+# tags of one repository. Prints the time of a file, the ratio to `find`, each the best of five walks, and the most memory
+# that a walk has had (VmHWM). Ends with status 1 where a walk fails or counts wrongly.
 # The folders are made below a temporary directory and are removed at the end. Build the program first: `rt run` in crates/page_walk.
+#     bench/pages.sh PROGRAM [COUNT..]
+# shellcheck source=bench/timing.sh
+. "$(dirname "$0")/timing.sh"
+program=$(program_at "${1:?"the built program page_walk"}") || fail "no program: $1"
 cd "$(dirname "$0")/.."
-. bench/timing.sh
-program=${1:?"the built program page_walk"}
+shift
+[ $# -gt 0 ] || set -- 1000 10000 100000
 
-python3 - "$work" <<'PYTHON'
+python3 - "$work" "$@" <<'PYTHON'
 import hashlib, os, sys
-for count in (1_000, 10_000, 100_000):
+for count in map(int, sys.argv[2:]):
     blobs = f"{sys.argv[1]}/blobs-{count}/docker/registry/v2/blobs/sha256"
     tags = f"{sys.argv[1]}/tags-{count}/docker/registry/v2/repositories/a/_manifests/tags"
     for n in range(count):
@@ -19,12 +24,14 @@ for count in (1_000, 10_000, 100_000):
 PYTHON
 
 for kind in blobs tags; do
-    for count in 1000 10000 100000; do
+    for count in "$@"; do
         depot=$work/$kind-$count
-        [ "$("$program" "$depot" docker 64)" = "$count" ]
+        counted=$("$program" "$depot" docker 64) || fail "the walk through $count $kind failed"
+        [ "$counted" = "$count" ] || fail "$counted files in place of $count"
         walk=$(best_time "$program" "$depot" docker 64)
         found=$(best_time find "$depot/docker" -type f)
-        awk -v kind=$kind -v n=$count -v w="$walk" -v f="$found" \
-            'BEGIN { printf "%-5s %6d files: %5.1f us a file, %4.1f times find\n", kind, n, w / n, w / f }'
+        memory=$(memory_at_end "$program" "$depot" docker 64) || fail "no memory was told"
+        awk -v kind="$kind" -v n="$count" -v w="$walk" -v f="$found" -v m="$memory" \
+            'BEGIN { printf "%-5s %6d files: %5.1f us a file, %4.1f times find, %5.1f MB of memory\n", kind, n, w / n, w / f, m / 1024 }'
     done
 done

@@ -1,14 +1,21 @@
 #!/usr/bin/env bash
-# Reads 200,000 heads of 300 bytes, and bodies of 64 MB in chunks of 32 KB and of 10 bytes. Prints the time of a head beside
-# that of copying its bytes; and for each body, read into a room and put into a stage, the speed, and the ratio to the time
-# of copying its stream. All are processor times, the least of nine runs, without that of getting the input.
+# Reads 200,000 heads of 300 bytes, and bodies of 64 MB in chunks of 32 KB and of 10 bytes. Prints how many heads are read in a
+# second and the time of one; and for each body, read into a room and put into a stage, how many MB in a second; each with the
+# ratio to the time of copying its stream. All are processor times, the least of nine runs, without that of getting the input.
+# Ends with status 1 where a run fails or counts wrongly.
 # The streams are made below a temporary directory and are removed at the end. Build the program first: `rt run` in crates/wire_speed.
+#     bench/requests.sh PROGRAM [HEADS [MEGABYTES]]
+# shellcheck source=bench/timing.sh
+. "$(dirname "$0")/timing.sh"
+program=$(program_at "${1:?"the built program wire_speed"}") || fail "no program: $1"
 cd "$(dirname "$0")/.."
-. bench/timing.sh
-program=${1:?"the built program wire_speed"}
+heads=${2:-200000}
+megabytes=${3:-64}
 
-python3 - "$work" <<'PYTHON'
+python3 - "$work" "$heads" "$megabytes" <<'PYTHON'
 import sys
+heads, megabytes = int(sys.argv[2]), int(sys.argv[3])
+
 def write(name, *parts):
     with open(f"{sys.argv[1]}/{name}", "wb") as stream:
         stream.writelines(parts)
@@ -17,36 +24,57 @@ head = b"GET /v2/library/alpine/manifests/latest HTTP/1.1\r\nHost: registry.exam
 head += b"Accept: application/vnd.oci.image.manifest.v1+json, application/vnd.oci.image.index.v1+json\r\nAccept-Encoding: gzip\r\n"
 head += b"X-Pad: " + b"x" * (300 - len(head) - 11) + b"\r\n\r\n"
 assert len(head) == 300
-write("heads", head * 200_000)
-write("none")
+write("heads", head * heads)
 for name, size in ("chunks-32768", 32_768), ("chunks-10", 10):
     chunk = b"%x\r\n" % size + b"x" * size + b"\r\n"
-    write(name, b"PUT / HTTP/1.1\r\nTransfer-Encoding: chunked\r\n\r\n", chunk * ((64 << 20) // size), b"0\r\n\r\n")
+    write(name, b"PUT / HTTP/1.1\r\nTransfer-Encoding: chunked\r\n\r\n", chunk * ((megabytes << 20) // size), b"0\r\n\r\n")
 PYTHON
 
-# The least of nine runs, in microseconds of processor time.
+# The least of nine runs, in microseconds of processor time. A run that fails ends it.
 best() {
     local TIMEFORMAT='%U %S'
     for _ in 1 2 3 4 5 6 7 8 9; do
-        { time "$program" "$1" < "$work/$2" > /dev/null; } 2>&1
+        { time "$program" "$1" < "$work/$2" > /dev/null; } 2>&1 || return 1
     done | awk '{ printf "%d\n", ($1 + $2) * 1e6 }' | least
 }
 
-# The same, without getting the input.
+# The same, without getting the input. On a busy machine the difference may drown: then there is nothing to tell.
 beside_input() {
-    echo $(( $(best "$1" "$2") - $(best input "$2") ))
+    local whole input
+    whole=$(best "$1" "$2") || return 1
+    input=$(best input "$2") || return 1
+    [ "$whole" -gt "$input" ] || fail "$1 $2: the machine is too busy to tell, run it again"
+    echo $((whole - input))
 }
 
-[ "$("$program" read < "$work/heads")" = "200000 requests, 0 bytes" ]
+# Expects that a way of taking a stream counts so.
+expect() {
+    local told
+    told=$("$program" "$1" < "$work/$2") || fail "$1 $2: no count"
+    [ "$told" = "$3" ] || fail "$1 $2: $told in place of $3"
+}
+
+# Expects that a stream is counted so, read or staged, and is copied whole.
+expect_counts() {
+    expect read "$1" "$2"
+    expect stage "$1" "$2"
+    expect copy "$1" "0 requests, $(stat -c %s "$work/$1") bytes"
+}
+
+expect_counts heads "$heads requests, 0 bytes"
 read=$(beside_input read heads)
 copy=$(beside_input copy heads)
-awk -v r="$read" -v c="$copy" 'BEGIN { printf "a head of 300 bytes: %.2f us beside %.2f us to copy it\n", (r - c) / 200000, c / 200000 }'
+awk -v n="$heads" -v r="$read" -v c="$copy" \
+    'BEGIN { printf "heads of 300 bytes: %.0f a second, %.2f us each, %.1f times a copy\n", n / r * 1e6, r / n, r / c }'
 
-for stream in chunks-32768 chunks-10; do
-    copy=$(beside_input copy $stream)
+for size in 32768 10; do
+    stream=chunks-$size
+    bytes=$(((megabytes << 20) / size * size))
+    expect_counts "$stream" "1 requests, $bytes bytes"
+    copy=$(beside_input copy "$stream")
     for way in read stage; do
-        time=$(beside_input $way $stream)
-        awk -v s=$stream -v w=$way -v t="$time" -v c="$copy" \
-            'BEGIN { printf "%-12s %-5s: %5.0f MB/s, %.1f times a copy\n", s, w, 67.108864 / t * 1e6, t / c }'
+        time=$(beside_input "$way" "$stream")
+        awk -v s="$stream" -v w="$way" -v n="$bytes" -v t="$time" -v c="$copy" \
+            'BEGIN { printf "%-12s %-5s: %5.0f MB/s, %.1f times a copy\n", s, w, n / t, t / c }'
     done
 done
