@@ -142,3 +142,7 @@ tag-digest-cmp tag digest h k = rw k.is (front-cmp (codes "sha256") tag (encode_
 
 pub digest-tag-cmp : (tag digest : List ℕ) → IsTag tag → IsDigest digest → slice_cmp nat_cmp (codes "sha256:") tag ≡ slice_cmp nat_cmp (digest_text digest) tag
 digest-tag-cmp tag digest h k = nat_list_cmp_total.antisymm (codes "sha256:") tag ∙ ap ordering_reverse (tag-digest-cmp tag digest h k) ∙ sym (nat_list_cmp_total.antisymm (digest_text digest) tag)
+
+-- the order of digests by one algorithm is that of their raw bytes
+pub raws-cmp : (digest other : List ℕ) → IsDigest digest → IsDigest other → slice_cmp nat_cmp (drop 1 digest) (drop 1 other) ≡ slice_cmp nat_cmp digest other
+raws-cmp digest other is is_too = rw (is.is, is_too.is) refl

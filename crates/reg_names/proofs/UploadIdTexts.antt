@@ -14,7 +14,7 @@ use Rattle.hex.specs.Hex.{encode_with, lower_digits}
 use Rattle.uuid.specs.Text.{by_index, byte_of_digits, digits_of, hex_digit, hyphenated_text, is_hex_digit, lower, parsed_hyphenated, parsed_simple, value_of}
 use Rattle.uuid.proofs.TextLemmas.{by_index_at, by_index_length, hyphenated_ascii, table_at}
 use Rattle.uuid.proofs.RoundTrips.{parses_hyphenated_text, swap_twice}
-use Rattle.reg_names.specs.Reading.{ReadsText}
+use Rattle.reg_names.specs.Reading.{ReadsBack}
 use Rattle.reg_names.specs.UploadIds.{IsUploadId, upload_id_text, upload_id_named}
 
 -- ---- the text that `uuid` writes is the id's
@@ -125,12 +125,12 @@ named-is : (text id : List ℕ) (found : Option (List ℕ)) → parsed_hyphenate
 named-is text id None e h = cc (h, named-unparsed text e)
 named-is text id (Some other) e h = spelled-is text other id _ (parsed-AreIds text other e) refl (sym (named-parsed text other e) ∙ h)
 
-exact_at : (text : List ℕ) (found : Option (List ℕ)) → upload_id_named text ≡ found → ReadsText IsUploadId upload_id_text text found
-exact_at text None e = λ t. cc (e, named-text t.0 t.1, ap upload_id_named t.2)
-exact_at text (Some id) e = named-is text id _ refl e
+exact_at : (text : List ℕ) (found : Option (List ℕ)) → upload_id_named text ≡ found → ReadsBack IsUploadId upload_id_text text found
+exact_at text None e = λ id is same. cc (e, named-text id is, ap upload_id_named same)
+exact_at text (Some id) e = let named = named-is text id _ refl e in (named.0, sym named.1)
 
 -- a text names an id exactly where it is the text of one
-pub named-exact : (text : List ℕ) → ReadsText IsUploadId upload_id_text text (upload_id_named text)
+pub named-exact : (text : List ℕ) → ReadsBack IsUploadId upload_id_text text (upload_id_named text)
 named-exact text = exact_at text (upload_id_named text) refl
 
 -- bytes that are no UTF-8 name none

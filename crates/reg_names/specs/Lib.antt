@@ -1,4 +1,5 @@
 pub mod Cause
+pub mod Refusals
 pub mod Kinds
 pub mod Tags
 pub mod Names

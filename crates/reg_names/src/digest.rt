@@ -1,5 +1,5 @@
 //! Digests.
-ghost use Rattle.std.specs.Prelude.{◌≡◌, ℕ, List, ◌∷◌, codes, MatchOption, IfOk};
+ghost use Rattle.std.specs.Prelude.{◌≡◌, ℕ, List, ◌∷◌, drop, codes, MatchOption, IfOk};
 ghost use Rattle.std.specs.Ordering.{nat_cmp};
 ghost use Rattle.std.specs.Cmp.Lexicographic.{slice_cmp};
 ghost use Rattle.hex.specs.Hex.{encode_lower};
@@ -38,9 +38,9 @@ impl Digest {
         Digest { raw }
     }
 
-    /// The 32 bytes of the digest.
-    pub fn raw(&self) -> &[u8; 32]
-        ensures raw { self.now ≡ 1 ∷ result.now }
+    /// The digest's bytes without the algorithm: 32 by SHA-256.
+    pub fn raw(&self) -> &[u8]
+        ensures raw { result.now ≡ drop 1 self.now }
         ensures digest { IsDigest self.now }
     {
         &self.raw

@@ -1,6 +1,6 @@
 //! References to manifests.
 ghost use Rattle.std.specs.Prelude.{◌≡◌, IfOk};
-ghost use Rattle.reg_names.specs.Reading.{ReadsText};
+ghost use Rattle.reg_names.specs.Reading.{ReadsBack};
 ghost use Rattle.reg_names.specs.References.{IsReference, reference_text, reference_named};
 ghost use Rattle.reg_names.specs.declared.reference.Reference.{Reference as RefersTo};
 
@@ -20,7 +20,7 @@ pub enum Reference {
 impl Reference {
     /// The reference whose text this is, and `None` exactly where it is neither a tag's nor a digest's.
     pub fn read(alloc: Global, text: &str) -> Result<Option<Reference>, NoMemory>
-        ensures exact { IfOk result (ReadsText IsReference reference_text text.now) }
+        ensures exact { IfOk result (ReadsBack IsReference reference_text text.now) }
         ensures value { IfOk result (λ found. found ≡ reference_named text.now) }
     {
         Reference::read_bytes(alloc, text.as_bytes())
@@ -28,7 +28,7 @@ impl Reference {
 
     /// The same of bytes that may be no text.
     pub fn read_bytes(alloc: Global, text: &[u8]) -> Result<Option<Reference>, NoMemory>
-        ensures exact { IfOk result (ReadsText IsReference reference_text text.now) }
+        ensures exact { IfOk result (ReadsBack IsReference reference_text text.now) }
         ensures value { IfOk result (λ found. found ≡ reference_named text.now) }
     {
         let tag = Tag::read_bytes(alloc, text)?;

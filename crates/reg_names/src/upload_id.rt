@@ -2,7 +2,7 @@
 ghost use Rattle.std.specs.Prelude.{◌≡◌, ℕ, List, Ok, IfOk};
 ghost use Rattle.std.specs.Ordering.{nat_cmp};
 ghost use Rattle.std.specs.Cmp.Lexicographic.{slice_cmp};
-ghost use Rattle.reg_names.specs.Reading.{ReadsText};
+ghost use Rattle.reg_names.specs.Reading.{ReadsBack};
 ghost use Rattle.reg_names.specs.UploadIds.{IsUploadId, upload_id_text, upload_id_named, version_4};
 
 use crate::{NoMemory, Text};
@@ -43,7 +43,7 @@ impl UploadId {
     /// The id whose text this is, and `None` exactly where it is no id's: 8-4-4-4-12 lower-case hexadecimal digits (RFC
     /// 9562, section 4), of any version. It takes no memory, and never answers want of it.
     pub fn read(text: &str) -> Result<Option<UploadId>, NoMemory>
-        ensures exact { IfOk result (ReadsText IsUploadId upload_id_text text.now) }
+        ensures exact { IfOk result (ReadsBack IsUploadId upload_id_text text.now) }
         ensures value { result ≡ Ok (upload_id_named text.now) }
     {
         let Ok(id) = text.parse::<Hyphenated>() else {
@@ -56,7 +56,7 @@ impl UploadId {
 
     /// The same of bytes that may be no text.
     pub fn read_bytes(text: &[u8]) -> Result<Option<UploadId>, NoMemory>
-        ensures exact { IfOk result (ReadsText IsUploadId upload_id_text text.now) }
+        ensures exact { IfOk result (ReadsBack IsUploadId upload_id_text text.now) }
         ensures value { result ≡ Ok (upload_id_named text.now) }
     {
         match str::from_utf8(text) {

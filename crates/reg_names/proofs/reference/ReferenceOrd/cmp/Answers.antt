@@ -1,7 +1,7 @@
-use Rattle.std.proofs.Common.{◌≡◌, refl, ◌∙◌}
+use Rattle.std.proofs.Common.{◌≡◌, ◌∙◌}
 use Rattle.std.specs.Ordering.{nat_cmp}
 use Rattle.std.specs.Cmp.Lexicographic.{slice_cmp}
-use Rattle.reg_names.proofs.TextOrder.{digests-cmp, tag-digest-cmp, digest-tag-cmp}
+use Rattle.reg_names.proofs.TextOrder.{raws-cmp, digests-cmp, tag-digest-cmp, digest-tag-cmp}
 use Rattle.reg_names.proofs.reference.ReferenceOrd.cmp.Goals as goal
 
 pub returns-in-Tag-Digest : goal.returns-in-Tag-Digest
@@ -17,6 +17,6 @@ returns-in-Digest-Tag c =
 pub returns-in-Digest-Digest : goal.returns-in-Digest-Digest
 returns-in-Digest-Digest c =
     let raw : slice_cmp nat_cmp c.raw.result.now c.raw-in-Digest-Digest.result.now ≡ slice_cmp nat_cmp c.in-Digest-Digest.digest c.in-Digest-Digest.other =
-    rw (c.raw.ensures.raw, c.raw-in-Digest-Digest.ensures.raw) refl in
+    rw (c.raw.ensures.raw, c.raw-in-Digest-Digest.ensures.raw) (raws-cmp c.in-Digest-Digest.digest c.in-Digest-Digest.other c.raw.ensures.digest c.raw-in-Digest-Digest.ensures.digest) in
     let order = digests-cmp c.in-Digest-Digest.digest c.in-Digest-Digest.other c.raw.ensures.digest c.raw-in-Digest-Digest.ensures.digest in
     rw (c.in-Digest-Digest.is-0, c.in-Digest-Digest.is-1) (c.cmp-in-Digest-Digest.ensures ∙ raw ∙ order)
