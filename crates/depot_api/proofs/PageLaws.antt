@@ -15,7 +15,7 @@ use Rattle.std.proofs.lemmas.Map.Entries.{lookup_head, lookup_tail, none_below_h
 use Rattle.std.proofs.lemmas.Map.Keys.{sorted_head, sorted_tail}
 use Rattle.depot_api.specs.Paths.{path_cmp, is_below, begins_with}
 use Rattle.depot_api.specs.Files.{Files}
-use Rattle.depot_api.specs.Pages.{is_after, IsAsked, IsNext, IsPage, Ascends}
+use Rattle.depot_api.specs.Pages.{is_after, IsAsked, IsNextPath, IsPage, ArePathsAbove}
 use Rattle.depot_api.proofs.OrderLaws.{path_total, less_from, is_below-trans, front_below, path_same}
 
 abbrev Path : Type 0
@@ -67,7 +67,7 @@ module _ (files : Files) (under : Path) where
       (λ y.
       let asked : IsAsked under after e.0 = (s.above.0, y) in
       let at : files e.0 ≡ Some e.1 = s.found e.0 asked ∙ lookup_head (is_at (path_cmp e.0)) e es (ap is_eq (tied_itself path_total e.0)) in
-      let next : IsNext files under after (Some e.0) = (asked, ap is_some at, λ q a b. none_below after e es s q a (less_from (path_cmp q e.0) b)) in
+      let next : IsNextPath files under after (Some e.0) = (asked, ap is_some at, λ q a b. none_below after e es s q a (less_from (path_cmp q e.0) b)) in
       subst (IsPage files under after (suc n))
       (sym (ap (take (suc n)) (take_while-cons (begins_with under) e.0 (keys_of es) ∙ cond-true (begins_with under e.0) _ _ y)))
       (next, IsPage-from_shown n (Some e.0) es (shown_rest after e es s)))
@@ -84,13 +84,13 @@ module _ (files : Files) (under : Path) where
   length-page (suc n) after (p ∷ ps) page = omega (arith, length-page n (Some p) ps page.1)
 
   -- the paths of a page ascend
-  pub Ascends-from_page : (n : ℕ) (after : Option Path) (paths : List Path) → IsPage files under after n paths → Ascends under after paths
-  Ascends-from_page zero after paths page = subst (Ascends under after) (sym page) tt
-  Ascends-from_page (suc n) after [] page = tt
-  Ascends-from_page (suc n) after (p ∷ ps) page = (page.0.0, Ascends-from_page n (Some p) ps page.1)
+  pub ArePathsAbove-from_page : (n : ℕ) (after : Option Path) (paths : List Path) → IsPage files under after n paths → ArePathsAbove under after paths
+  ArePathsAbove-from_page zero after paths page = subst (ArePathsAbove under after) (sym page) tt
+  ArePathsAbove-from_page (suc n) after [] page = tt
+  ArePathsAbove-from_page (suc n) after (p ∷ ps) page = (page.0.0, ArePathsAbove-from_page n (Some p) ps page.1)
 
   -- two least paths are one
-  one_next : (after : Option Path) (p q : Path) → IsNext files under after (Some p) → IsNext files under after (Some q) → p ≡ q
+  one_next : (after : Option Path) (p q : Path) → IsNextPath files under after (Some p) → IsNextPath files under after (Some q) → p ≡ q
   one_next after p q np nq = by (path_cmp p q) refl
     where
       gone : (r : Path) → IsSome (files r) → files r ≡ None → ⊥
@@ -133,10 +133,10 @@ last_or-last before (p ∷ ps) =
     ∙ last_or-some p ps before
 
 -- a path that is asked for behind the last one, which `last().or(after)` gives, goes to the end
-pub Ascends-push : (under : Path) (after : Option Path) (paths : List Path) (q : Path) → Ascends under after paths → IsAsked under (option_or (slice_get paths (length paths - 1)) after) q → Ascends under after (paths ++ q ∷ [])
-Ascends-push under after paths q all asked =
+pub ArePathsAbove-push : (under : Path) (after : Option Path) (paths : List Path) (q : Path) → ArePathsAbove under after paths → IsAsked under (option_or (slice_get paths (length paths - 1)) after) q → ArePathsAbove under after (paths ++ q ∷ [])
+ArePathsAbove-push under after paths q all asked =
     push after paths all (subst (λ o. IsAsked under o q) (last_or-last after paths) asked)
   where
-    push : (before : Option Path) (ps : List Path) → Ascends under before ps → IsAsked under (last_or before ps) q → Ascends under before (ps ++ q ∷ [])
+    push : (before : Option Path) (ps : List Path) → ArePathsAbove under before ps → IsAsked under (last_or before ps) q → ArePathsAbove under before (ps ++ q ∷ [])
     push before [] all asked = (asked, tt)
     push before (p ∷ ps) all asked = (all.0, push (Some p) ps all.1 asked)

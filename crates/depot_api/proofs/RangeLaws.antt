@@ -13,7 +13,7 @@ use Rattle.std.proofs.lemmas.Bool.{and_parts, and_from, cond_both, cond-true}
 use Rattle.std.proofs.lemmas.List.Sums.{take_while-cons}
 use Rattle.std.proofs.lemmas.Map.Entries.{lookup-filter-keys}
 use Rattle.depot_api.specs.Paths.{path_cmp}
-use Rattle.depot_api.specs.Memory.{StartsAt}
+use Rattle.depot_api.specs.InnerRanges.{StartsAt}
 use Rattle.depot_api.specs.Pages.{is_after, IsAsked}
 use Rattle.depot_api.proofs.OrderLaws.{path_same, equal_from, is_le-from, not_gt-from, from_under, below_upto, upto_below}
 use Rattle.depot_api.proofs.PageLaws.{Shown}

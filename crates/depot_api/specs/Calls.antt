@@ -1,5 +1,5 @@
 -- The calls of a device in memory.
-use Rattle.std.specs.Prelude.{ℕ, Bool, ◌+◌, ◌^◌, ◌==◌, nat_lt, List, if◌then◌else◌}
+use Rattle.std.specs.Prelude.{◌≡◌, ◌↔◌, ℕ, Bool, ◌+◌, ◌^◌, ◌==◌, nat_lt, List, if◌then◌else◌, IsTrue}
 use Rattle.std.specs.List.{list_any}
 
 -- how many calls were made, the numbers of those that fail, and how many failed
@@ -27,3 +27,8 @@ with_call calls failed = record calls { made = one_more calls.made; faults = if 
 -- one fault more, which is no call, or none
 abbrev pub with_fault : Calls → Bool → Calls
 with_fault calls failed = record calls { faults = if failed then one_more calls.faults else calls.faults }
+
+-- a call was counted, and it failed exactly where its number stands among those that fail
+pub record CountsCall (before now : Calls) (told : Type 0) : Type 0 where
+  pub failed : told ↔ IsTrue (fails before)
+  pub counted : now ≡ with_call before (fails before)

@@ -1,5 +1,5 @@
 -- What a depot holds: the bytes at each path, or nothing.
-use Rattle.std.specs.Prelude.{ℕ, ◌≤◌, nat_le, if◌then◌else◌, List, length, Option, Some, None, cond, ⊤}
+use Rattle.std.specs.Prelude.{◌≡◌, ℕ, ◌≤◌, nat_le, if◌then◌else◌, List, length, Option, Some, None, cond, option_map, ⊤}
 use Rattle.depot_api.specs.declared.depot.Small.{Small}
 use Rattle.depot_api.specs.declared.depot.Small.TheVariants.{Absent, TooLong, Content}
 use Rattle.depot_api.specs.Paths.{is_at}
@@ -22,3 +22,11 @@ abbrev pub IsUpTo : ℕ → Small → Type 0
 IsUpTo most Absent = ⊤
 IsUpTo most TooLong = ⊤
 IsUpTo most (Content bytes) = length bytes ≤ most
+
+-- the size of the file at a path, or that there is none
+abbrev pub IsSizeAt : List (List ℕ) → Files → Option ℕ → Type 0
+IsSizeAt at files size = size ≡ option_map length (files at)
+
+-- the file at a path, where it has at most so many bytes
+abbrev pub IsSmallAt : List (List ℕ) → ℕ → Files → Small → Type 0
+IsSmallAt at most files found = found ≡ small most (files at)

@@ -1,5 +1,7 @@
+pub mod Limits
 pub mod Paths
 pub mod Files
+pub mod Holdings
 pub mod Pages
 pub mod Blobs
 pub mod Stages
@@ -7,6 +9,7 @@ pub mod Streams
 pub mod Ids
 pub mod Calls
 pub mod Memory
+pub mod InnerRanges
 pub mod MemDepot
 pub mod MemBlob
 pub mod MemStage

@@ -1,13 +1,8 @@
 -- What the devices in memory hold.
-use Rattle.std.specs.Prelude.{◌≡◌, ℕ, Bool, ◌&&◌, ◌==◌, nat_lt, ◌-◌, min, max, List, [], ◌∷◌, length, slice_index_or, replicate, Option, Some, None}
+use Rattle.std.specs.Prelude.{ℕ, Bool, ◌&&◌, ◌==◌, nat_lt, ◌-◌, min, max, List, [], ◌∷◌, length, slice_index_or, replicate, Some, None}
 use Rattle.std.specs.List.{slice_get}
 use Rattle.std.specs.Option.{option_map_or}
-use Rattle.std.specs.Ordering.{is_le}
-use Rattle.std.specs.declared.ops.Bound.{Bound}
-use Rattle.std.specs.BTreeMap.Range.{is_from_start}
-use Rattle.depot_api.specs.Paths.{path_cmp}
 use Rattle.depot_api.specs.Files.{Files, with_at}
-use Rattle.depot_api.specs.Pages.{is_after}
 
 -- no file
 abbrev pub no_files : Files
@@ -22,13 +17,11 @@ with_all files (entry ∷ rest) = with_all (with_at files entry.0 (Some entry.1)
 abbrev pub files_of : List (List (List ℕ) × List ℕ) → Files
 files_of entries = with_all no_files entries
 
--- a range starts at the paths that are above `after` and not below `under`
-abbrev pub StartsAt : Bound (List (List ℕ)) → List (List ℕ) → Option (List (List ℕ)) → Type 0
-StartsAt lo under after = (q : List (List ℕ)) → is_from_start path_cmp lo q ≡ (is_le (path_cmp under q) && is_after after q)
-
--- how many of so many bytes read number k gives, into that much room: at most the larger of 1 and the piece of its number, where there is one
+-- how many of so many bytes read number k gives into a buffer of that size: at most the larger of 1 and the piece of its
+-- number, where there is one
 abbrev pub read_length : List ℕ → ℕ → ℕ → ℕ → ℕ
-read_length pieces k left room = min (min left room) (option_map_or (λ piece. max 1 piece) (slice_get pieces k) left)
+read_length pieces k left size =
+    min (min left size) (option_map_or (λ piece. max 1 piece) (slice_get pieces k) left)
 
 -- there is no room for a piece that is not empty
 abbrev pub is_full : ℕ → List ℕ → Bool

@@ -13,17 +13,19 @@ abbrev pub IsAsked : List (List ℕ) → Option (List (List ℕ)) → List (List
 IsAsked under after q = IsTrue (is_after after q) × IsTrue (begins_with under q)
 
 -- the least path asked for at which there is a file
-abbrev pub IsNext : Files → List (List ℕ) → Option (List (List ℕ)) → Option (List (List ℕ)) → Type 0
-IsNext files under after None = (q : List (List ℕ)) → IsAsked under after q → files q ≡ None
-IsNext files under after (Some p) = IsAsked under after p × IsSome (files p) × ((q : List (List ℕ)) → IsAsked under after q → IsTrue (is_below q p) → files q ≡ None)
+abbrev pub IsNextPath : Files → List (List ℕ) → Option (List (List ℕ)) → Option (List (List ℕ)) → Type 0
+IsNextPath files under after None = (q : List (List ℕ)) → IsAsked under after q → files q ≡ None
+IsNextPath files under after (Some p) =
+    IsAsked under after p × IsSome (files p)
+    × ((q : List (List ℕ)) → IsAsked under after q → IsTrue (is_below q p) → files q ≡ None)
 
 -- the first `most` files of those asked for, in the order of their paths: all of them where there are fewer
 abbrev pub IsPage : Files → List (List ℕ) → Option (List (List ℕ)) → ℕ → List (List (List ℕ)) → Type 0
 IsPage files under after zero paths = paths ≡ []
-IsPage files under after (suc n) [] = IsNext files under after None
-IsPage files under after (suc n) (p ∷ rest) = IsNext files under after (Some p) × IsPage files under (Some p) n rest
+IsPage files under after (suc n) [] = IsNextPath files under after None
+IsPage files under after (suc n) (p ∷ rest) = IsNextPath files under after (Some p) × IsPage files under (Some p) n rest
 
 -- paths that are asked for, each above the one before it
-abbrev pub Ascends : List (List ℕ) → Option (List (List ℕ)) → List (List (List ℕ)) → Type 0
-Ascends under after [] = ⊤
-Ascends under after (p ∷ rest) = IsAsked under after p × Ascends under (Some p) rest
+abbrev pub ArePathsAbove : List (List ℕ) → Option (List (List ℕ)) → List (List (List ℕ)) → Type 0
+ArePathsAbove under after [] = ⊤
+ArePathsAbove under after (p ∷ rest) = IsAsked under after p × ArePathsAbove under (Some p) rest

@@ -1,5 +1,6 @@
 //! Clocks.
-ghost use Rattle.std.specs.Prelude.{◌≡◌, ℕ, ◌^◌, ◌≤◌, Option, IfSome};
+ghost use Rattle.std.specs.Prelude.{◌≡◌, ℕ, ◌≤◌, Option, IfSome};
+ghost use Rattle.depot_api.specs.Limits.{moment_limit};
 
 /// What tells the moment.
 pub trait Clock {
@@ -8,6 +9,6 @@ pub trait Clock {
 
     /// The moment in seconds since 1970, at most 2^62. Takes no memory, and cannot fail.
     fn now(&self) -> u64
-        ensures moment { result ≤ 2 ^ 62 }
+        ensures moment { result ≤ moment_limit }
         ensures told { IfSome (reading self.now) (λ at. result ≡ at) };
 }

@@ -1,10 +1,12 @@
 //! Files under paths.
-ghost use Rattle.std.specs.Prelude.{◌≡◌, ℕ, ◌^◌, ◌<◌, ◌≤◌, Bool, List, Option, length, vec_len, IsTrue, IfOk, IfSome, IsErrOf};
-ghost use Rattle.std.specs.Option.{option_map};
-ghost use Rattle.reg_names.specs.Cause.{HasCause};
-ghost use Rattle.reg_names.specs.declared.refused.Refused.TheVariants as refusals;
-ghost use Rattle.depot_api.specs.Files.{Files, small, IsUpTo};
-ghost use Rattle.depot_api.specs.Pages.{IsPage, Ascends};
+ghost use Rattle.std.specs.Prelude.{◌≡◌, ℕ, ◌<◌, ◌≤◌, List, Option, vec_len, IfOk};
+ghost use Rattle.std.specs.Option.{option_map, option_copied};
+ghost use Rattle.reg_names.specs.Cause.{OnlyReads};
+ghost use Rattle.reg_names.specs.Refusals.{HasFailed};
+ghost use Rattle.depot_api.specs.Files.{Files, IsUpTo, IsSizeAt, IsSmallAt};
+ghost use Rattle.depot_api.specs.Holdings.{Holding, Finds, IfFound};
+ghost use Rattle.depot_api.specs.Limits.{file_limit};
+ghost use Rattle.depot_api.specs.Pages.{IsPage, ArePathsAbove};
 
 use crate::{Blob, Path};
 use reg_names::{Bytes, Refused};
@@ -26,19 +28,16 @@ pub fn pages_agree()
     ensures { (files : Files) (under : List (List ℕ)) (after : Option (List (List ℕ))) (most : ℕ) (one two : List (List (List ℕ))) → IsPage files under after most one → IsPage files under after most two → one ≡ two }
 {}
 
-/// A map from paths to the bytes of files, each of at most 2^62 bytes.
+/// A map from paths to the bytes of files, each of at most 2^62 bytes, and the paths that are lent.
 ///
 /// A depot may not tell what it holds, as a real directory does not. Clauses on content speak of depots that tell.
-/// No call here changes a file, also where it fails or finds no memory.
+/// No call here changes what it holds, also where it fails or finds no memory.
 pub trait Depot {
     /// A file that is read in pieces. It is given back by `done`.
     type B: Blob;
 
-    /// Whether it tells what it holds. No call changes that.
-    ghost tells: { Self → Bool };
-
-    /// The files.
-    ghost files: { Self → Files };
+    /// Whether it tells its files, the files, and which paths are lent.
+    ghost held: { Self → Holding };
 
     /// How often it has failed. No call makes it fall.
     ghost faults: { Self → ℕ };
@@ -49,30 +48,25 @@ pub trait Depot {
     /// Errors, here and in the calls below: `Failed` where the depot failed and its count of faults rose, and
     /// `NoMemory`, which is tied to no cause. Both leave all files as they were.
     fn size(&mut self, alloc: Global, at: &Path) -> Result<Option<u64>, Refused>
-        ensures value { IsTrue (tells self.old) → IfOk result (λ size. size ≡ option_map length (files self.old at.now)) }
-        ensures most { IfOk result (λ size. IfSome size (λ n. n ≤ 2 ^ 62)) }
-        ensures files { files self.new ≡ files self.old }
-        ensures tells { tells self.new ≡ tells self.old }
-        ensures cause { HasCause (faults self.old) (faults self.new) (IsErrOf result refusals.Failed) };
+        ensures value { Finds (held self.old) result (IsSizeAt at.now) }
+        ensures most { IfFound result (λ size. size ≤ file_limit) }
+        ensures reads { OnlyReads held faults self.old self.new (HasFailed result) };
 
     /// All bytes of the file at a path, where it has at most `most` of them: `Absent` where there is no file, `TooLong`
     /// where it has more, and never a part of it.
     fn read_small(&mut self, alloc: Global, at: &Path, most: u64) -> Result<Small, Refused>
-        ensures value { IsTrue (tells self.old) → IfOk result (λ r. r ≡ small most (files self.old at.now)) }
+        ensures value { Finds (held self.old) result (IsSmallAt at.now most) }
         ensures most { IfOk result (IsUpTo most) }
-        ensures files { files self.new ≡ files self.old }
-        ensures tells { tells self.new ≡ tells self.old }
-        ensures cause { HasCause (faults self.old) (faults self.new) (IsErrOf result refusals.Failed) };
+        ensures reads { OnlyReads held faults self.old self.new (HasFailed result) };
 
     /// The file at a path, to be read in pieces from its first byte, and `None` exactly where there is none. The blob
     /// has had no fault. Whoever took it gives it back by `done`.
     fn fetch(&mut self, alloc: Global, at: &Path) -> Result<Option<Self::B>, Refused>
-        ensures value { IsTrue (tells self.old) → IfOk result (λ found. option_map Self.B.bytes found ≡ files self.old at.now) }
-        ensures telling { IfOk result (λ found. IfSome found (λ blob. Self.B.tells blob ≡ tells self.old)) }
-        ensures fresh { IfOk result (λ found. IfSome found (λ blob. Self.B.faults blob ≡ 0)) }
-        ensures files { files self.new ≡ files self.old }
-        ensures tells { tells self.new ≡ tells self.old }
-        ensures cause { HasCause (faults self.old) (faults self.new) (IsErrOf result refusals.Failed) };
+        ensures value { Finds (held self.old) result
+            (λ files found. option_map (λ blob. (Self.B.rest blob).bytes) found ≡ files at.now) }
+        ensures telling { IfFound result (λ b. (Self.B.rest b).tells ≡ (held self.old).tells) }
+        ensures fresh { IfFound result (λ blob. Self.B.faults blob ≡ 0) }
+        ensures reads { OnlyReads held faults self.old self.new (HasFailed result) };
 
     /// The first `most` paths of files, in the order of paths, that begin with the parts of `under` and are above
     /// `after`, and not `after` itself. Without `after` they begin with the first one. The path `under` begins with
@@ -86,17 +80,15 @@ pub trait Depot {
         after: Option<&Path>,
         most: usize,
     ) -> Result<Vec<Path>, Refused>
-        ensures value { IsTrue (tells self.old) → IfOk result (λ page. IsPage (files self.old) under.now (option_map (λ a. a.now) after.entry) most page.items) }
+        ensures value { Finds (held self.old) result
+            (λ files page. IsPage files under.now (option_copied after.entry) most page.items) }
         ensures most { IfOk result (λ page. vec_len page ≤ most) }
-        ensures order { IfOk result (λ page. Ascends under.now (option_map (λ a. a.now) after.entry) page.items) }
-        ensures files { files self.new ≡ files self.old }
-        ensures tells { tells self.new ≡ tells self.old }
-        ensures cause { HasCause (faults self.old) (faults self.new) (IsErrOf result refusals.Failed) };
+        ensures order { IfOk result (λ page.
+            ArePathsAbove under.now (option_copied after.entry) page.items) }
+        ensures reads { OnlyReads held faults self.old self.new (HasFailed result) };
 
     /// Ends a blob, read to its end or not. The faults that it has had count as one fault of the depot. Takes no
     /// memory, and cannot fail.
     fn done(&mut self, blob: Self::B)
-        ensures files { files self.new ≡ files self.old }
-        ensures tells { tells self.new ≡ tells self.old }
-        ensures cause { HasCause (faults self.old) (faults self.new) (0 < Self.B.faults blob) };
+        ensures reads { OnlyReads held faults self.old self.new (0 < Self.B.faults blob) };
 }

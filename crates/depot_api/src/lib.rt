@@ -9,6 +9,7 @@ mod blob;
 mod clock;
 mod depot;
 mod ids;
+mod limits;
 pub mod memory;
 mod path;
 mod stage;
@@ -18,10 +19,8 @@ pub use blob::{Blob, BlobFault};
 pub use clock::Clock;
 pub use depot::{Depot, Small, pages_agree};
 pub use ids::Ids;
+pub use limits::{FILE_LIMIT, GIVEN_LIMIT, MOMENT_LIMIT, PART_LIMIT, PATH_LIMIT};
 pub use path::{Part, Path};
 pub use reg_names::{Bytes, NoMemory, Refused, Text};
 pub use stage::Stage;
 pub use stream::{Sink, SinkFault, Source, SourceFault};
-
-#[cfg(test)]
-mod tests;

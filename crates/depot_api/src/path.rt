@@ -1,10 +1,10 @@
 //! Paths of files.
-ghost use Rattle.std.specs.Prelude.{◌≡◌, ◌↔◌, ◌||◌, ◌++◌, ℕ, nat_eq, List, codes, IfOk, IsTrue, MatchOption};
+ghost use Rattle.std.specs.Prelude.{◌≡◌, ◌↔◌, ◌++◌, ℕ, List, IfOk, IsTrue};
 ghost use Rattle.std.specs.List.{list_all};
-ghost use Rattle.std.specs.Cmp.Lexicographic.{pointwise};
 ghost use Rattle.reg_names.specs.Reading.{ReadsExactly};
-ghost use Rattle.depot_api.specs.Paths.{is_part_byte, is_part, IsPart, IsPath, parts_of, path_text, begins_with};
+ghost use Rattle.depot_api.specs.Paths.{is_part_byte, is_dots as are_dots, is_part, IsPart, IsPath, ReadsPath, parts_of, path_text, begins_with};
 
+use crate::{PART_LIMIT, PATH_LIMIT};
 use reg_names::{NoMemory, Text};
 use std::alloc::Global;
 use std::cmp::Ordering;
@@ -76,7 +76,7 @@ impl Part {
 fn is_part_text(text: &str) -> bool
     ensures { result ≡ is_part text.now }
 {
-    1 <= text.len() && text.len() <= 255 && are_part_bytes(text.as_bytes()) && !is_dots(text)
+    1 <= text.len() && text.len() <= PART_LIMIT && are_part_bytes(text.as_bytes()) && !is_dots(text)
 }
 
 fn are_part_bytes(bytes: &[u8]) -> bool
@@ -87,7 +87,7 @@ fn are_part_bytes(bytes: &[u8]) -> bool
 
 // `.` and `..` lead elsewhere.
 fn is_dots(text: &str) -> bool
-    ensures { result ≡ (pointwise nat_eq text.now (codes ".") || pointwise nat_eq text.now (codes "..")) }
+    ensures { result ≡ are_dots text.now }
 {
     text == "." || text == ".."
 }
@@ -110,15 +110,12 @@ impl Model for Path {
     ghost invariant = { λ p. IsPath p.parts.items };
 }
 
-/// The longest text of a path, in bytes.
-const LONGEST: usize = 4096;
-
 impl Path {
     /// The path that a text is, and `None` exactly where it is none.
     pub fn read(alloc: Global, text: &str) -> Result<Option<Path>, NoMemory>
-        ensures { IfOk result (λ found. MatchOption found (¬ IsPath (parts_of text.now)) (λ p. (p ≡ parts_of text.now) × IsPath p)) }
+        ensures { IfOk result (ReadsPath text.now) }
     {
-        if text.len() > LONGEST {
+        if text.len() > PATH_LIMIT {
             return Ok(None);
         }
         let mut parts = Vec::new(alloc);

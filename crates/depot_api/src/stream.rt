@@ -2,7 +2,7 @@
 ghost use Rattle.std.specs.Prelude.{◌≡◌, ℕ, List, Option, IsErr};
 ghost use Rattle.std.specs.Io.KnownBytes.{ReadConsumes, WriteAppends};
 ghost use Rattle.reg_names.specs.Cause.{HasCause};
-ghost use Rattle.depot_api.specs.Streams.{Gives, Takes};
+ghost use Rattle.depot_api.specs.Streams.{GivesUpTo, TakesSome};
 
 /// A source failed, and gave nothing.
 #[derive(Clone, Copy, Debug, PartialEq, Eq)]
@@ -24,12 +24,12 @@ pub trait Source {
     ghost faults: { Self → ℕ };
 
     /// Fills the front of `into` with the next bytes, and answers how many it gave, at most the length of `into`: 0
-    /// only at the end of the input, or for an empty room. Takes no memory.
+    /// only at the end of the input, or for an empty buffer. Takes no memory.
     ///
     /// Errors: `SourceFault` where the count of faults rose. Nothing was given.
     fn read(&mut self, into: &mut [u8]) -> Result<usize, SourceFault>
         ensures bytes { ReadConsumes (left self.old) (left self.new) result into.new }
-        ensures count { Gives into.old (given self.old) (given self.new) result }
+        ensures count { GivesUpTo into.old (given self.old) (given self.new) result }
         ensures cause { HasCause (faults self.old) (faults self.new) (IsErr result) };
 }
 
@@ -47,6 +47,6 @@ pub trait Sink {
     /// Errors: `SinkFault` where the count of faults rose. Nothing was taken.
     fn write(&mut self, piece: &[u8]) -> Result<usize, SinkFault>
         ensures bytes { WriteAppends (taken self.old) (taken self.new) result piece.now }
-        ensures count { Takes piece.now result }
+        ensures count { TakesSome piece.now result }
         ensures cause { HasCause (faults self.old) (faults self.new) (IsErr result) };
 }

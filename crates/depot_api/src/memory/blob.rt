@@ -1,8 +1,8 @@
 //! A blob in memory.
-ghost use Rattle.std.specs.Prelude.{◌≡◌, ◌^◌, ◌≤◌, ◌↔◌, length, min, IfOk, OnErr, IsErr, IsTrue};
+ghost use Rattle.std.specs.Prelude.{◌≡◌, ◌^◌, ◌≤◌, length, min, IfOk, OnErr, IsErr};
 ghost use Rattle.reg_names.specs.Cause.{HasCause};
 ghost use Rattle.depot_api.specs.Blobs.{ReadsSome, ReadsNext};
-ghost use Rattle.depot_api.specs.Calls.{no_calls, fails, with_call};
+ghost use Rattle.depot_api.specs.Calls.{no_calls, CountsCall};
 
 use crate::memory::calls::Calls;
 use crate::memory::content::FileBytes;
@@ -46,16 +46,11 @@ impl MemBlob {
 }
 
 impl Blob for MemBlob {
-    ghost use Rattle.std.specs.Prelude.{true, length};
-    ghost use Rattle.depot_api.specs.MemBlob.{blob_left, blob_reads};
+    ghost use Rattle.depot_api.specs.MemBlob.{blob_rest, blob_reads, blob_faults};
 
-    ghost tells = { λ _. true };
+    ghost rest = { blob_rest };
 
-    ghost bytes = { blob_left };
-
-    ghost left = { λ b. length (blob_left b) };
-
-    ghost faults = { λ b. (blob_reads b).faults };
+    ghost faults = { blob_faults };
 
     fn left(&self) -> u64 {
         (self.file.bytes().len() - self.at) as u64
@@ -63,14 +58,15 @@ impl Blob for MemBlob {
 
     fn read(&mut self, into: &mut [u8]) -> Result<usize, BlobFault>
         // Which reads fail, and that each is counted.
-        ensures failed { IsErr result ↔ IsTrue (fails (blob_reads self.old)) }
-        ensures reads { blob_reads self.new ≡ with_call (blob_reads self.old) (fails (blob_reads self.old)) }
-        ensures cause { HasCause (blob_reads self.old).faults (blob_reads self.new).faults (IsErr result) }
+        ensures calls { CountsCall (blob_reads self.old) (blob_reads self.new) (IsErr result) }
+        ensures cause { HasCause (blob_faults self.old) (blob_faults self.new) (IsErr result) }
 
         // How many bytes it gives, and that these are the next ones.
-        ensures length { IfOk result (λ n. n ≡ min (length (blob_left self.old)) (length into.old)) }
-        ensures count { ReadsSome (length into.old) (length (blob_left self.old)) (length (blob_left self.new)) result }
-        ensures bytes { ReadsNext into.old into.new (blob_left self.old) (blob_left self.new) result }
+        ensures length { IfOk result (λ n. n ≡ min (blob_rest self.old).count (length into.old)) }
+        ensures count { ReadsSome (length into.old) (blob_rest self.old) (blob_rest self.new)
+            result }
+        ensures bytes { ReadsNext into.old into.new (blob_rest self.old) (blob_rest self.new)
+            result }
         ensures untouched { OnErr result (into.new ≡ into.old) }
     {
         if self.reads.begin() {

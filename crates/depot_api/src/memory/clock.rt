@@ -1,5 +1,6 @@
 //! A clock that stands still.
-ghost use Rattle.std.specs.Prelude.{◌≤◌, ◌^◌};
+ghost use Rattle.std.specs.Prelude.{◌≤◌};
+ghost use Rattle.depot_api.specs.Limits.{moment_limit};
 
 use crate::Clock;
 
@@ -8,7 +9,7 @@ use crate::Clock;
 pub struct FixedClock {
     /// The moment in seconds since 1970.
     pub at: u64,
-    ghost in_range: { at ≤ 2 ^ 62 },
+    ghost in_range: { at ≤ moment_limit },
 }
 
 impl Clock for FixedClock {

@@ -1,7 +1,8 @@
 //! The bytes of a file in memory.
-ghost use Rattle.std.specs.Prelude.{◌≡◌, ◌^◌, ◌≤◌, length, IfOk};
+ghost use Rattle.std.specs.Prelude.{◌≡◌, ◌≤◌, length, IfOk};
+ghost use Rattle.depot_api.specs.Limits.{file_limit};
 
-use crate::{Bytes, NoMemory};
+use crate::{Bytes, FILE_LIMIT, NoMemory};
 use std::alloc::Global;
 use std::marker::Model;
 
@@ -11,17 +12,15 @@ pub struct FileBytes {
     bytes: Bytes,
 }
 
-/// The most bytes that a file has.
-const LONGEST: u64 = 1 << 62;
-
 impl Model for FileBytes {
-    ghost use Rattle.std.specs.Prelude.{List, ℕ, length, ◌≤◌, ◌^◌};
+    ghost use Rattle.std.specs.Prelude.{List, ℕ, length, ◌≤◌};
+    ghost use Rattle.depot_api.specs.Limits.{file_limit};
 
     ghost Value = { List ℕ };
 
     ghost view = { λ f. f.bytes };
 
-    ghost invariant = { λ f. length f.bytes ≤ 2 ^ 62 };
+    ghost invariant = { λ f. length f.bytes ≤ file_limit };
 }
 
 impl FileBytes {
@@ -29,7 +28,7 @@ impl FileBytes {
     pub fn of(bytes: Bytes) -> Result<FileBytes, NoMemory>
         ensures { IfOk result (λ f. f ≡ bytes) }
     {
-        if bytes.len() as u64 > LONGEST {
+        if bytes.len() as u64 > FILE_LIMIT {
             return Err(NoMemory);
         }
         Ok(FileBytes { bytes })
@@ -46,7 +45,7 @@ impl FileBytes {
     /// All bytes of the file.
     pub fn bytes(&self) -> &Bytes
         ensures bytes { result.now ≡ self.now }
-        ensures most { length self.now ≤ 2 ^ 62 }
+        ensures most { length self.now ≤ file_limit }
     {
         &self.bytes
     }

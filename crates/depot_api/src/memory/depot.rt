@@ -1,15 +1,18 @@
 //! A depot in memory.
-ghost use Rattle.std.specs.Prelude.{◌≡◌, ◌↔◌, ◌≤◌, ◌^◌, ◌<◌, nat_lt, [], length, vec_len, take, IsTrue, IfOk, IfSome, IsErrOf};
+ghost use Rattle.std.specs.Prelude.{◌≡◌, ◌≤◌, ◌<◌, nat_lt, [], option_copied, vec_len, take, IfOk};
 ghost use Rattle.std.specs.List.{take_while};
 ghost use Rattle.std.specs.Map.{keys_of};
 ghost use Rattle.std.specs.Option.{option_map};
-ghost use Rattle.reg_names.specs.Cause.{HasCause};
-ghost use Rattle.reg_names.specs.declared.refused.Refused.TheVariants as refusals;
+ghost use Rattle.reg_names.specs.Cause.{OnlyReads};
+ghost use Rattle.reg_names.specs.Refusals.{HasFailed};
 ghost use Rattle.std.specs.Range.Bound.{bound_map};
-ghost use Rattle.depot_api.specs.Calls.{no_calls, fails, with_call, with_fault};
-ghost use Rattle.depot_api.specs.Files.{small, IsUpTo};
-ghost use Rattle.depot_api.specs.Pages.{IsPage, Ascends};
-ghost use Rattle.depot_api.specs.Memory.{files_of, StartsAt};
+ghost use Rattle.depot_api.specs.Calls.{no_calls, with_fault};
+ghost use Rattle.depot_api.specs.Files.{IsUpTo, IsSizeAt, IsSmallAt};
+ghost use Rattle.depot_api.specs.Holdings.{IfFound};
+ghost use Rattle.depot_api.specs.Limits.{file_limit};
+ghost use Rattle.depot_api.specs.Pages.{IsPage, ArePathsAbove};
+ghost use Rattle.depot_api.specs.Memory.{files_of};
+ghost use Rattle.depot_api.specs.InnerRanges.{StartsAt};
 ghost use Rattle.depot_api.specs.Paths.{begins_with};
 ghost use Rattle.depot_api.specs.MemDepot.{depot_files, depot_calls, depot_reads};
 
@@ -79,24 +82,19 @@ impl MemDepot {
 impl Depot for MemDepot {
     type B = MemBlob;
 
-    ghost use Rattle.std.specs.Prelude.{true};
-    ghost use Rattle.depot_api.specs.MemBlob.{blob_left, blob_reads};
-    ghost use Rattle.depot_api.specs.MemDepot.{depot_files, depot_calls, depot_reads};
+    ghost use Rattle.depot_api.specs.MemBlob.{blob_left, blob_reads, blob_faults};
+    ghost use Rattle.depot_api.specs.MemDepot.{depot_files, depot_held, depot_faults, depot_calls, depot_reads, HasCalled};
 
-    ghost tells = { λ _. true };
+    ghost held = { depot_held };
 
-    ghost files = { depot_files };
-
-    ghost faults = { λ d. (depot_calls d).faults };
+    ghost faults = { depot_faults };
 
     fn size(&mut self, _alloc: Global, at: &Path) -> Result<Option<u64>, Refused>
-        ensures value { IfOk result (λ size. size ≡ option_map length (depot_files self.old at.now)) }
-        ensures most { IfOk result (λ size. IfSome size (λ n. n ≤ 2 ^ 62)) }
-        ensures files { depot_files self.new ≡ depot_files self.old }
-        ensures reads { depot_reads self.new ≡ depot_reads self.old }
-        ensures failed { IsErrOf result refusals.Failed ↔ IsTrue (fails (depot_calls self.old)) }
-        ensures calls { depot_calls self.new ≡ with_call (depot_calls self.old) (fails (depot_calls self.old)) }
-        ensures cause { HasCause (depot_calls self.old).faults (depot_calls self.new).faults (IsErrOf result refusals.Failed) }
+        ensures value { IfOk result (IsSizeAt at.now (depot_files self.old)) }
+        ensures most { IfFound result (λ size. size ≤ file_limit) }
+        ensures reads { OnlyReads depot_held depot_faults self.old self.new (HasFailed result) }
+        ensures failing { depot_reads self.new ≡ depot_reads self.old }
+        ensures calls { HasCalled self.old self.new (HasFailed result) }
     {
         if self.calls.begin() {
             return Err(Refused::Failed);
@@ -108,13 +106,11 @@ impl Depot for MemDepot {
     }
 
     fn read_small(&mut self, alloc: Global, at: &Path, most: u64) -> Result<Small, Refused>
-        ensures value { IfOk result (λ r. r ≡ small most (depot_files self.old at.now)) }
+        ensures value { IfOk result (IsSmallAt at.now most (depot_files self.old)) }
         ensures most { IfOk result (IsUpTo most) }
-        ensures files { depot_files self.new ≡ depot_files self.old }
-        ensures reads { depot_reads self.new ≡ depot_reads self.old }
-        ensures failed { IsErrOf result refusals.Failed ↔ IsTrue (fails (depot_calls self.old)) }
-        ensures calls { depot_calls self.new ≡ with_call (depot_calls self.old) (fails (depot_calls self.old)) }
-        ensures cause { HasCause (depot_calls self.old).faults (depot_calls self.new).faults (IsErrOf result refusals.Failed) }
+        ensures reads { OnlyReads depot_held depot_faults self.old self.new (HasFailed result) }
+        ensures failing { depot_reads self.new ≡ depot_reads self.old }
+        ensures calls { HasCalled self.old self.new (HasFailed result) }
     {
         if self.calls.begin() {
             return Err(Refused::Failed);
@@ -127,13 +123,12 @@ impl Depot for MemDepot {
     }
 
     fn fetch(&mut self, alloc: Global, at: &Path) -> Result<Option<MemBlob>, Refused>
-        ensures value { IfOk result (λ found. option_map blob_left found ≡ depot_files self.old at.now) }
-        ensures fresh { IfOk result (λ found. IfSome found (λ blob. blob_reads blob ≡ no_calls (depot_reads self.old))) }
-        ensures files { depot_files self.new ≡ depot_files self.old }
-        ensures reads { depot_reads self.new ≡ depot_reads self.old }
-        ensures failed { IsErrOf result refusals.Failed ↔ IsTrue (fails (depot_calls self.old)) }
-        ensures calls { depot_calls self.new ≡ with_call (depot_calls self.old) (fails (depot_calls self.old)) }
-        ensures cause { HasCause (depot_calls self.old).faults (depot_calls self.new).faults (IsErrOf result refusals.Failed) }
+        ensures value { IfOk result (λ found.
+            option_map blob_left found ≡ depot_files self.old at.now) }
+        ensures fresh { IfFound result (λ blob. blob_reads blob ≡ no_calls (depot_reads self.old)) }
+        ensures reads { OnlyReads depot_held depot_faults self.old self.new (HasFailed result) }
+        ensures failing { depot_reads self.new ≡ depot_reads self.old }
+        ensures calls { HasCalled self.old self.new (HasFailed result) }
     {
         if self.calls.begin() {
             return Err(Refused::Failed);
@@ -151,14 +146,14 @@ impl Depot for MemDepot {
         after: Option<&Path>,
         most: usize,
     ) -> Result<Vec<Path>, Refused>
-        ensures value { IfOk result (λ page. IsPage (depot_files self.old) under.now (option_map (λ a. a.now) after.entry) most page.items) }
+        ensures value { IfOk result (λ page.
+            IsPage (depot_files self.old) under.now (option_copied after.entry) most page.items) }
         ensures most { IfOk result (λ page. vec_len page ≤ most) }
-        ensures order { IfOk result (λ page. Ascends under.now (option_map (λ a. a.now) after.entry) page.items) }
-        ensures files { depot_files self.new ≡ depot_files self.old }
-        ensures reads { depot_reads self.new ≡ depot_reads self.old }
-        ensures failed { IsErrOf result refusals.Failed ↔ IsTrue (fails (depot_calls self.old)) }
-        ensures calls { depot_calls self.new ≡ with_call (depot_calls self.old) (fails (depot_calls self.old)) }
-        ensures cause { HasCause (depot_calls self.old).faults (depot_calls self.new).faults (IsErrOf result refusals.Failed) }
+        ensures order { IfOk result (λ page.
+            ArePathsAbove under.now (option_copied after.entry) page.items) }
+        ensures reads { OnlyReads depot_held depot_faults self.old self.new (HasFailed result) }
+        ensures failing { depot_reads self.new ≡ depot_reads self.old }
+        ensures calls { HasCalled self.old self.new (HasFailed result) }
     {
         if self.calls.begin() {
             return Err(Refused::Failed);
@@ -169,10 +164,10 @@ impl Depot for MemDepot {
     }
 
     fn done(&mut self, blob: MemBlob)
-        ensures files { depot_files self.new ≡ depot_files self.old }
-        ensures reads { depot_reads self.new ≡ depot_reads self.old }
-        ensures calls { depot_calls self.new ≡ with_fault (depot_calls self.old) (nat_lt 0 (blob_reads blob).faults) }
-        ensures cause { HasCause (depot_calls self.old).faults (depot_calls self.new).faults (0 < (blob_reads blob).faults) }
+        ensures reads { OnlyReads depot_held depot_faults self.old self.new (0 < blob_faults blob) }
+        ensures failing { depot_reads self.new ≡ depot_reads self.old }
+        ensures calls { depot_calls self.new
+            ≡ with_fault (depot_calls self.old) (nat_lt 0 (blob_faults blob)) }
     {
         self.calls.count_fault(blob.faults() > 0);
     }
@@ -185,7 +180,8 @@ fn first_paths(
     under: &Path,
     most: usize,
 ) -> Result<Vec<Path>, NoMemory>
-    ensures { IfOk result (λ paths. paths.items ≡ take most (take_while (begins_with under.now) (keys_of range.entry))) }
+    ensures { IfOk result (λ paths.
+        paths.items ≡ take most (take_while (begins_with under.now) (keys_of range.entry))) }
 {
     let mut paths = Vec::new(alloc);
     for (path, _) in range {
@@ -199,7 +195,7 @@ fn first_paths(
 
 // Where a page begins in the order of paths: above `after`, but not below `under`.
 fn first_bound<'a>(under: &'a Path, after: Option<&'a Path>) -> Bound<&'a Path>
-    ensures { StartsAt (bound_map (λ x. x.now) result) under.now (option_map (λ a. a.now) after.entry) }
+    ensures { StartsAt (bound_map (λ x. x.now) result) under.now (option_copied after.entry) }
 {
     let Some(after) = after else {
         return Bound::Included(under);

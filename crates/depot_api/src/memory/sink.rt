@@ -1,11 +1,11 @@
 //! A sink in memory.
-ghost use Rattle.std.specs.Prelude.{◌≡◌, ◌≤◌, ◌+◌, ◌-◌, ◌↔◌, ◌||◌, [], Some, length, min, vec_len, MatchResult, IfOk, IsErr, IsTrue, is_err};
+ghost use Rattle.std.specs.Prelude.{◌≡◌, ◌≤◌, ◌+◌, ◌-◌, ◌↔◌, ◌||◌, [], length, min, vec_len, IfOk, IsErr, IsTrue, is_err};
 ghost use Rattle.std.specs.Vec.{vec_capacity};
 ghost use Rattle.std.specs.Io.KnownBytes.{WriteAppends};
 ghost use Rattle.reg_names.specs.Cause.{HasCause};
 ghost use Rattle.depot_api.specs.Calls.{no_calls, fails, with_call};
 ghost use Rattle.depot_api.specs.Memory.{is_full};
-ghost use Rattle.depot_api.specs.Streams.{Takes};
+ghost use Rattle.depot_api.specs.Streams.{TakesSome};
 
 use crate::memory::calls::Calls;
 use crate::{NoMemory, Sink, SinkFault};
@@ -53,23 +53,24 @@ impl MemSink {
 }
 
 impl Sink for MemSink {
-    ghost use Rattle.depot_api.specs.MemSink.{sink_taken, sink_room, sink_calls};
+    ghost use Rattle.depot_api.specs.MemSink.{sink_taken, sink_room, sink_calls, sink_faults, sink_told, taken_by};
 
-    ghost taken = { λ s. Some (sink_taken s) };
+    ghost taken = { sink_told };
 
-    ghost faults = { λ s. (sink_calls s).faults };
+    ghost faults = { sink_faults };
 
     fn write(&mut self, piece: &[u8]) -> Result<usize, SinkFault>
         // Which writes fail, and that each is counted.
-        ensures failed { IsErr result ↔ IsTrue (fails (sink_calls self.old) || is_full (sink_room self.old) piece.now) }
+        ensures failed { IsErr result
+            ↔ IsTrue (fails (sink_calls self.old) || is_full (sink_room self.old) piece.now) }
         ensures calls { sink_calls self.new ≡ with_call (sink_calls self.old) (is_err result) }
-        ensures cause { HasCause (sink_calls self.old).faults (sink_calls self.new).faults (IsErr result) }
+        ensures cause { HasCause (sink_faults self.old) (sink_faults self.new) (IsErr result) }
 
         // How many bytes it takes, and that these are those in front.
         ensures length { IfOk result (λ n. n ≡ min (length piece.now) (sink_room self.old)) }
-        ensures room { MatchResult result (λ n. sink_room self.new ≡ sink_room self.old - n) (λ _. sink_room self.new ≡ sink_room self.old) }
-        ensures bytes { WriteAppends (Some (sink_taken self.old)) (Some (sink_taken self.new)) result piece.now }
-        ensures count { Takes piece.now result }
+        ensures room { sink_room self.new ≡ sink_room self.old - taken_by result }
+        ensures bytes { WriteAppends (sink_told self.old) (sink_told self.new) result piece.now }
+        ensures count { TakesSome piece.now result }
     {
         let full = self.room == 0 && !piece.is_empty();
         let failed = self.calls.fails() || full;

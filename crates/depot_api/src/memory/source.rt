@@ -1,10 +1,9 @@
 //! A source in memory.
-ghost use Rattle.std.specs.Prelude.{◌≡◌, ◌≤◌, ◌++◌, ◌↔◌, Some, length, take, drop, IfOk, OnErr, IsErr, IsTrue};
+ghost use Rattle.std.specs.Prelude.{◌≡◌, ◌≤◌, ◌++◌, length, take, drop, IfOk, OnErr, IsErr};
 ghost use Rattle.std.specs.Io.KnownBytes.{ReadConsumes};
 ghost use Rattle.reg_names.specs.Cause.{HasCause};
-ghost use Rattle.depot_api.specs.Calls.{no_calls, fails, with_call};
-ghost use Rattle.depot_api.specs.Memory.{read_length};
-ghost use Rattle.depot_api.specs.Streams.{Gives};
+ghost use Rattle.depot_api.specs.Calls.{no_calls, CountsCall};
+ghost use Rattle.depot_api.specs.Streams.{GivesUpTo};
 
 use crate::memory::calls::Calls;
 use crate::{Bytes, NoMemory, Source, SourceFault};
@@ -21,7 +20,7 @@ pub struct MemSource {
 }
 
 impl MemSource {
-    ghost use Rattle.depot_api.specs.MemSource.{source_left, source_given, source_pieces, source_calls};
+    ghost use Rattle.depot_api.specs.MemSource.{source_left, source_given, source_pieces, source_calls, source_faults, source_told, next_length};
 
     /// A source of these bytes. Read number k gives at most the larger of 1 and `pieces[k]` bytes, where
     /// there is that piece. The reads whose numbers stand in `fail` fail.
@@ -44,16 +43,16 @@ impl MemSource {
         })
     }
 
-    // How many bytes the next read gives into so much room.
-    fn next_length(&self, room: usize) -> usize
-        ensures { result ≡ read_length (source_pieces self.now) (source_calls self.now).made (length (source_left self.now)) room }
+    // How many bytes the next read gives into a buffer of that size.
+    fn next_length(&self, size: usize) -> usize
+        ensures { result ≡ next_length self.now size }
     {
         let left = self.bytes.len() - self.at;
         let most = match self.pieces.get(self.calls.made() as usize) {
             Some(piece) => (*piece).max(1),
             None => left,
         };
-        left.min(room).min(most)
+        left.min(size).min(most)
     }
 
     /// How often it has failed.
@@ -65,27 +64,27 @@ impl MemSource {
 }
 
 impl Source for MemSource {
-    ghost use Rattle.depot_api.specs.MemSource.{source_left, source_given, source_pieces, source_calls};
+    ghost use Rattle.depot_api.specs.MemSource.{source_left, source_given, source_pieces, source_calls, source_faults, source_told, next_length};
 
-    ghost left = { λ s. Some (source_left s) };
+    ghost left = { source_told };
 
     ghost given = { source_given };
 
-    ghost faults = { λ s. (source_calls s).faults };
+    ghost faults = { source_faults };
 
     fn read(&mut self, into: &mut [u8]) -> Result<usize, SourceFault>
         // Which reads fail, and that each is counted.
-        ensures failed { IsErr result ↔ IsTrue (fails (source_calls self.old)) }
-        ensures calls { source_calls self.new ≡ with_call (source_calls self.old) (fails (source_calls self.old)) }
-        ensures cause { HasCause (source_calls self.old).faults (source_calls self.new).faults (IsErr result) }
+        ensures calls { CountsCall (source_calls self.old) (source_calls self.new) (IsErr result) }
+        ensures cause { HasCause (source_faults self.old) (source_faults self.new) (IsErr result) }
 
         // How many bytes it gives, and that these are the next ones.
-        ensures length { IfOk result (λ n. n ≡ read_length (source_pieces self.old) (source_calls self.old).made (length (source_left self.old)) (length into.old)) }
-        ensures bytes { ReadConsumes (Some (source_left self.old)) (Some (source_left self.new)) result into.new }
-        ensures count { Gives into.old (source_given self.old) (source_given self.new) result }
+        ensures length { IfOk result (λ n. n ≡ next_length self.old (length into.old)) }
+        ensures bytes { ReadConsumes (source_told self.old) (source_told self.new) result into.new }
+        ensures count { GivesUpTo into.old (source_given self.old) (source_given self.new) result }
 
         // What stays.
-        ensures room { IfOk result (λ n. into.new ≡ take n (source_left self.old) ++ drop n into.old) }
+        ensures buffer { IfOk result (λ n.
+            into.new ≡ take n (source_left self.old) ++ drop n into.old) }
         ensures untouched { OnErr result (into.new ≡ into.old) }
         ensures pieces { source_pieces self.new ≡ source_pieces self.old }
     {

@@ -1,31 +1,35 @@
 //! A stage in memory.
-ghost use Rattle.std.specs.Prelude.{◌≡◌, ◌+◌, ◌-◌, ◌^◌, ◌≤◌, ◌↔◌, ◌++◌, [], false, length, min, take, vec_len, IfOk, OnErr, IsErrOf, IsTrue};
-ghost use Rattle.reg_names.specs.Cause.{HasCause};
-ghost use Rattle.reg_names.specs.declared.refused.Refused.TheVariants as refusals;
-ghost use Rattle.depot_api.specs.Calls.{no_calls, fails, with_call};
+ghost use Rattle.std.specs.Prelude.{◌≡◌, ◌+◌, ◌-◌, ◌≤◌, ◌++◌, [], false, length, min, take, vec_len, IfOk, OnErr, IsTrue};
+ghost use Rattle.reg_names.specs.Cause.{HasCause, OnlyReads};
+ghost use Rattle.reg_names.specs.Refusals.{HasFailed};
+ghost use Rattle.depot_api.specs.Calls.{no_calls, fails, with_call, CountsCall};
+ghost use Rattle.depot_api.specs.Limits.{file_limit};
 ghost use Rattle.depot_api.specs.Stages.{Grew, Appended, ReadsUpTo, ReadsFrom};
 
 use crate::memory::calls::Calls;
-use crate::{NoMemory, Refused, Stage};
+use crate::{NoMemory, Path, Refused, Stage};
 use std::alloc::Global;
 
 /// Bytes that are staged in memory. Every append and every read has a number, from 0.
 #[derive(Drop)]
 pub struct MemStage {
+    path: Path,
     bytes: Vec<u8>,
     calls: Calls,
-    ghost most: { vec_len bytes ≤ 2 ^ 62 },
+    ghost most: { vec_len bytes ≤ file_limit },
 }
 
 impl MemStage {
-    ghost use Rattle.depot_api.specs.MemStage.{stage_bytes, stage_calls};
+    ghost use Rattle.depot_api.specs.MemStage.{stage_path, stage_bytes, stage_calls};
 
-    /// A stage without bytes. The calls whose numbers stand in `fail` fail.
-    pub fn new(alloc: Global, fail: Vec<u64>) -> MemStage
+    /// A stage without bytes, lent from a path. The calls whose numbers stand in `fail` fail.
+    pub fn new(alloc: Global, path: Path, fail: Vec<u64>) -> MemStage
+        ensures path { stage_path result ≡ path }
         ensures bytes { stage_bytes result ≡ [] }
         ensures calls { stage_calls result ≡ no_calls fail.items }
     {
         MemStage {
+            path,
             bytes: Vec::new(alloc),
             calls: Calls::new(fail),
         }
@@ -40,9 +44,11 @@ impl MemStage {
 
     // Puts a piece behind the staged bytes.
     fn put(&mut self, piece: &[u8]) -> Result<(), NoMemory>
-        requires { length (stage_bytes self.old) + length piece.now ≤ 2 ^ 62 }
-        ensures bytes { IfOk result (λ _. stage_bytes self.new ≡ stage_bytes self.old ++ piece.now) }
+        requires { length (stage_bytes self.old) + length piece.now ≤ file_limit }
+        ensures bytes { IfOk result (λ _.
+            stage_bytes self.new ≡ stage_bytes self.old ++ piece.now) }
         ensures without { OnErr result (stage_bytes self.new ≡ stage_bytes self.old) }
+        ensures path { stage_path self.new ≡ stage_path self.old }
         ensures calls { stage_calls self.new ≡ stage_calls self.old }
     {
         Ok(self.bytes.extend_from_slice(piece)?)
@@ -57,16 +63,11 @@ impl MemStage {
 }
 
 impl Stage for MemStage {
-    ghost use Rattle.std.specs.Prelude.{true, length};
-    ghost use Rattle.depot_api.specs.MemStage.{stage_bytes, stage_calls};
+    ghost use Rattle.depot_api.specs.MemStage.{stage_path, stage_bytes, stage_held, stage_faults, stage_calls};
 
-    ghost tells = { λ _. true };
+    ghost held = { stage_held };
 
-    ghost bytes = { stage_bytes };
-
-    ghost staged = { λ s. length (stage_bytes s) };
-
-    ghost faults = { λ s. (stage_calls s).faults };
+    ghost faults = { stage_faults };
 
     fn length(&self) -> u64 {
         self.bytes.len() as u64
@@ -74,17 +75,21 @@ impl Stage for MemStage {
 
     // One that fails puts all of the piece there but its last byte.
     fn append(&mut self, piece: &[u8]) -> Result<(), Refused>
-        requires { length (stage_bytes self.old) + length piece.now ≤ 2 ^ 62 }
+        requires { length (stage_bytes self.old) + length piece.now ≤ file_limit }
         // Which appends fail, and that each is counted.
-        ensures failed { IsErrOf result refusals.Failed → IsTrue (fails (stage_calls self.old)) }
+        ensures failed { HasFailed result → IsTrue (fails (stage_calls self.old)) }
         ensures passed { IfOk result (λ _. fails (stage_calls self.old) ≡ false) }
-        ensures calls { stage_calls self.new ≡ with_call (stage_calls self.old) (fails (stage_calls self.old)) }
-        ensures cause { HasCause (stage_calls self.old).faults (stage_calls self.new).faults (IsErrOf result refusals.Failed) }
+        ensures calls { stage_calls self.new
+            ≡ with_call (stage_calls self.old) (fails (stage_calls self.old)) }
+        ensures cause { HasCause (stage_faults self.old) (stage_faults self.new)
+            (HasFailed result) }
 
         // What it puts there.
-        ensures part { IsErrOf result refusals.Failed → stage_bytes self.new ≡ stage_bytes self.old ++ take (length piece.now - 1) piece.now }
-        ensures bytes { Appended piece.now (stage_bytes self.old) (stage_bytes self.new) result }
-        ensures count { Grew (length piece.now) (length (stage_bytes self.old)) (length (stage_bytes self.new)) result }
+        ensures part { HasFailed result
+            → stage_bytes self.new ≡ stage_bytes self.old ++ take (length piece.now - 1) piece.now }
+        ensures bytes { Appended piece.now (stage_held self.old) (stage_held self.new) result }
+        ensures count { Grew piece.now (stage_held self.old) (stage_held self.new) result }
+        ensures path { stage_path self.new ≡ stage_path self.old }
     {
         let failed = self.calls.begin();
         let length = piece.len().saturating_sub(u8::from(failed) as usize);
@@ -97,15 +102,15 @@ impl Stage for MemStage {
 
     fn read_at(&mut self, at: u64, into: &mut [u8]) -> Result<usize, Refused>
         // Which reads fail, and that each is counted.
-        ensures failed { IsErrOf result refusals.Failed ↔ IsTrue (fails (stage_calls self.old)) }
-        ensures calls { stage_calls self.new ≡ with_call (stage_calls self.old) (fails (stage_calls self.old)) }
-        ensures cause { HasCause (stage_calls self.old).faults (stage_calls self.new).faults (IsErrOf result refusals.Failed) }
+        ensures calls { CountsCall (stage_calls self.old) (stage_calls self.new)
+            (HasFailed result) }
 
         // How many bytes it gives, and that these are those from there on.
-        ensures length { IfOk result (λ n. n ≡ min (length (stage_bytes self.old) - at) (length into.old)) }
-        ensures count { ReadsUpTo (length into.old) at (length (stage_bytes self.old)) result }
-        ensures filled { ReadsFrom at (stage_bytes self.old) into.old into.new result }
-        ensures bytes { stage_bytes self.new ≡ stage_bytes self.old }
+        ensures length { IfOk result (λ n.
+            n ≡ min (length (stage_bytes self.old) - at) (length into.old)) }
+        ensures count { ReadsUpTo (length into.old) at (stage_held self.old).count result }
+        ensures filled { ReadsFrom at (stage_held self.old) into.old into.new result }
+        ensures reads { OnlyReads stage_held stage_faults self.old self.new (HasFailed result) }
     {
         if self.calls.begin() {
             return Err(Refused::Failed);

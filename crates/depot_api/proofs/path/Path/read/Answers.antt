@@ -4,8 +4,8 @@ use Rattle.std.proofs.lemmas.Iterator.Splits.{YieldsList-from_str_split}
 use Rattle.depot_api.proofs.PathLaws.{not_path_from_long, not_path_from_part, IsPath-from_parts}
 use Rattle.depot_api.proofs.path.Path.read.Goals as goal
 
-pub returns-then-text-gt-LONGEST : goal.returns-then-text-gt-LONGEST
-returns-then-text-gt-LONGEST c = not_path_from_long c.args.text.now c.if-text-gt-LONGEST.true
+pub returns-then-text-gt-PATH_LIMIT : goal.returns-then-text-gt-PATH_LIMIT
+returns-then-text-gt-PATH_LIMIT c = not_path_from_long c.args.text.now c.if-text-gt-PATH_LIMIT.true
 
 pub returns-in-None-2 : goal.returns-in-None-2
 returns-in-None-2 c =
@@ -16,4 +16,4 @@ pub returns : goal.returns
 returns c =
     let end = YieldsList-end (YieldsList-from_str_split 47 c.args.text.now (lit< tt) (cc) (cc) (cc)) c.loop-part.yielded _ c.loop-part.yielded_by _ _ c.in-None.is c.next.ensures.steps in
     let same = c.loop-part.invariant.same ∙ end.0 in
-    (same, IsPath-from_parts c.args.text.now _ same c.if-text-gt-LONGEST.false c.loop-part.invariant.parts)
+    (same, IsPath-from_parts c.args.text.now _ same c.if-text-gt-PATH_LIMIT.false c.loop-part.invariant.parts)
