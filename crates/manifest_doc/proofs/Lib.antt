@@ -5,3 +5,4 @@ pub mod FreedomLaws
 pub mod DocumentLaws
 pub mod MemberLaws
 pub mod OneDocumentLaws
+pub mod StoredLaws

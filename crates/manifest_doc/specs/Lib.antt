@@ -5,3 +5,4 @@ pub mod Documents
 pub mod Members
 pub mod Noting
 pub mod OneDocument
+pub mod Stored

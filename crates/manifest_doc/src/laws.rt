@@ -7,6 +7,7 @@ ghost use Rattle.manifest_doc.specs.Kinds.{object_in};
 ghost use Rattle.manifest_doc.specs.Documents.{IsDocument, verdict};
 ghost use Rattle.manifest_doc.specs.Members.{names_digest, frees_digest, lists_digest};
 ghost use Rattle.manifest_doc.specs.OneDocument.{document_in};
+ghost use Rattle.manifest_doc.specs.Stored.{IsStoredManifest, stored_in};
 ghost use Rattle.manifest_doc.specs.declared.document.Doc.{Doc};
 
 /// The bytes of a document pass the tests, and these tell its kind.
@@ -46,4 +47,9 @@ pub fn bytes_are_one_document()
 /// The document that is computed of bytes is the one that they are, and there is one exactly where they are a document.
 pub fn documents_are_computed()
     ensures { (bytes : List ℕ) (doc : Doc) → (document_in bytes ≡ Some doc) ↔ IsDocument bytes doc }
+{}
+
+/// The document that is computed of a stored manifest is its own, and there is one exactly where the bytes are one.
+pub fn stored_manifests_are_computed()
+    ensures { (digest bytes : List ℕ) (doc : Doc) → (stored_in digest bytes ≡ Some doc) ↔ IsStoredManifest digest bytes doc }
 {}

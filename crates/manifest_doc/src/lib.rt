@@ -11,6 +11,7 @@ mod fault;
 mod kinds;
 mod laws;
 mod lists;
+mod stored;
 #[cfg(test)]
 mod tests;
 
@@ -18,6 +19,8 @@ pub use document::{Doc, read_doc};
 pub use fault::DocFault;
 pub use laws::{
     bytes_are_one_document, bytes_that_pass_are_a_document, children_are_listed,
-    documents_are_computed, documents_pass_the_tests, what_is_free_has_urls, what_is_named_is_held,
+    documents_are_computed, documents_pass_the_tests, stored_manifests_are_computed,
+    what_is_free_has_urls, what_is_named_is_held,
 };
 pub use reg_names::{DigestList, Kind, Named, NamedList};
+pub use stored::{MANIFEST_LIMIT, read_stored};
