@@ -5,4 +5,5 @@ pub mod FreedomLaws
 pub mod DocumentLaws
 pub mod MemberLaws
 pub mod OneDocumentLaws
+pub mod SizeLaws
 pub mod StoredLaws

@@ -135,10 +135,10 @@ children_are es = record {
 
 -- ---- the document
 
-abbrev doc_by : Data → Kind → Doc
+abbrev pub doc_by : Data → Kind → Doc
 doc_by d kind = record { kind = kind; named = named_in (config d) (layers d); children = in_order (digests_in (manifests d)) }
 
-doc_is : (d : Data) (kind : Kind) → judged d ≡ Ok kind → IsObjectDocument d (doc_by d kind)
+pub doc_is : (d : Data) (kind : Kind) → judged d ≡ Ok kind → IsObjectDocument d (doc_by d kind)
 doc_is d kind is = record { kind = is; named = named_are (config d) (layers d); children = children_are (manifests d) }
 
 from_verdict : (r : Result Kind DocFault) (d : Data) (doc : Doc) → judged d ≡ r → option_map (doc_by d) (result_ok r) ≡ Some doc → IsObjectDocument d doc

@@ -17,9 +17,13 @@ use Rattle.manifest_doc.specs.declared.fault.DocFault.TheVariants.{NotJson, NoKi
 
 -- ---- the tests
 
--- neither list has more than 1,024 elements
+-- the most elements of `layers` or `manifests`
+abbrev pub element_limit : ℕ
+element_limit = 1024
+
+-- neither list has more elements than it may have
 abbrev pub is_small : Data → Bool
-is_small d = nat_le (length (elements (codes "layers") d)) 1024 && nat_le (length (elements (codes "manifests") d)) 1024
+is_small d = nat_le (length (elements (codes "layers") d)) element_limit && nat_le (length (elements (codes "manifests") d)) element_limit
 
 -- the configuration, where there is one, each layer and each listed manifest is a descriptor
 abbrev pub has_descriptors : Data → Bool

@@ -1,9 +1,9 @@
 //! Documents.
-ghost use Rattle.std.specs.Prelude.{◌≡◌, codes, IfOk, IfErr};
+ghost use Rattle.std.specs.Prelude.{◌≡◌, ◌≤◌, ◌+◌, codes, length, IfOk, IfErr};
 ghost use Rattle.serde_json.specs.Find.{get};
 ghost use Rattle.serde_json.specs.View.{view};
 ghost use Rattle.manifest_doc.specs.Faults.{IsDue};
-ghost use Rattle.manifest_doc.specs.Documents.{IsDocument, IsObjectDocument, judged, verdict, is_small, config_read};
+ghost use Rattle.manifest_doc.specs.Documents.{element_limit, IsDocument, IsObjectDocument, judged, verdict, is_small, config_read};
 
 use crate::descriptors::{Descriptor, elements, read_all};
 use crate::kinds::{kind_of_object, read_object};
@@ -13,7 +13,7 @@ use serde_json::Value;
 use std::alloc::Global;
 
 /// The most elements of `layers` or `manifests`.
-const MOST_ELEMENTS: usize = 1_024;
+const ELEMENT_LIMIT: usize = 1_024;
 
 /// What a registry needs to know of a manifest. Both lists ascend strictly by digest.
 #[derive(Debug, PartialEq, Eq, Drop)]
@@ -29,6 +29,8 @@ pub struct Doc {
 /// Specification" and "Image Index Specification").
 pub fn read_doc(alloc: Global, bytes: &[u8]) -> Result<Doc, DocFault>
     ensures ok { IfOk result (IsDocument bytes.now) }
+    ensures named { IfOk result (λ doc. length doc.named ≤ element_limit + 1) }
+    ensures children { IfOk result (λ doc. length doc.children ≤ element_limit) }
     ensures err { IfErr result (IsDue (verdict bytes.now)) }
 {
     let object = read_object(alloc, bytes)?;
@@ -58,8 +60,8 @@ fn read_members(alloc: Global, object: &Value) -> Result<Doc, DocFault>
 fn is_small(object: &Value) -> bool
     ensures { result ≡ is_small (view object.now) }
 {
-    elements(object, "layers").len() <= MOST_ELEMENTS
-        && elements(object, "manifests").len() <= MOST_ELEMENTS
+    elements(object, "layers").len() <= ELEMENT_LIMIT
+        && elements(object, "manifests").len() <= ELEMENT_LIMIT
 }
 
 // The configuration's descriptor, where there is a configuration.
