@@ -8,7 +8,7 @@ use Rattle.std.specs.declared.cmp.Ordering.TheVariants.{Less, Equal, Greater}
 use Rattle.std.specs.Cmp.Lexicographic.{pointwise, slice_cmp, same_text, texts_ties, nat_list_eq_equiv, nat_list_cmp_total}
 use Rattle.std.proofs.lemmas.Map.Keys.{sorted_head, sorted_tail}
 use Rattle.reg_names.specs.declared.named.Named.{Named}
-use Rattle.reg_names.specs.Named.{Ascends, digests_of, free_in, has_digest}
+use Rattle.reg_names.specs.Named.{AscendStrictly, digests_of, free_in, has_digest}
 
 abbrev order : List ℕ → List ℕ → Ordering
 order = slice_cmp nat_cmp
@@ -29,7 +29,7 @@ absent k (n ∷ ns) all =
 first_of : (x : Named) (xs : List Named) → free_in x.digest (x ∷ xs) ≡ Some x.free
 first_of x xs = ap (λ t. cond t (Some x.free) (free_in x.digest xs)) (nat_list_eq_equiv.refl x.digest)
 
-none_below : (x y : Named) (ys : List Named) → order x.digest y.digest ≡ Less → Ascends (digests_of (y ∷ ys)) → free_in x.digest (y ∷ ys) ≡ None
+none_below : (x y : Named) (ys : List Named) → order x.digest y.digest ≡ Less → AscendStrictly (digests_of (y ∷ ys)) → free_in x.digest (y ∷ ys) ≡ None
 none_below x y ys less up =
     absent x.digest (y ∷ ys) (less, above_more x.digest y.digest (digests_of ys) less (sorted_head order y.digest (digests_of ys) up))
 
@@ -42,7 +42,7 @@ same_entry x y d f = λ i. record { digest = d i; free = f i }
 some_is : (b c : Bool) → Some b ≡ Some c → b ≡ c
 some_is b c e = cc e
 
-heads_by : (o : Ordering) (x y : Named) (xs ys : List Named) → order x.digest y.digest ≡ o → Ascends (digests_of (x ∷ xs)) → Ascends (digests_of (y ∷ ys)) → ((q : List ℕ) → free_in q (x ∷ xs) ≡ free_in q (y ∷ ys)) → x ≡ y
+heads_by : (o : Ordering) (x y : Named) (xs ys : List Named) → order x.digest y.digest ≡ o → AscendStrictly (digests_of (x ∷ xs)) → AscendStrictly (digests_of (y ∷ ys)) → ((q : List ℕ) → free_in q (x ∷ xs) ≡ free_in q (y ∷ ys)) → x ≡ y
 heads_by Less x y xs ys is up upper same =
     not_some (free_in x.digest (y ∷ ys)) x.free (none_below x y ys is upper) (sym (same x.digest) ∙ first_of x xs)
 heads_by Greater x y xs ys is up upper same =
@@ -57,14 +57,14 @@ rest_by true x xs ys q is up upper same =
     ap (λ k. free_in k xs) here ∙ absent x.digest xs up ∙ sym (absent x.digest ys upper) ∙ sym (ap (λ k. free_in k ys) here)
 rest_by false x xs ys q is up upper same = same
 
-rests : (x y : Named) (xs ys : List Named) → x ≡ y → Ascends (digests_of (x ∷ xs)) → Ascends (digests_of (y ∷ ys)) → ((q : List ℕ) → free_in q (x ∷ xs) ≡ free_in q (y ∷ ys)) → (q : List ℕ) → free_in q xs ≡ free_in q ys
+rests : (x y : Named) (xs ys : List Named) → x ≡ y → AscendStrictly (digests_of (x ∷ xs)) → AscendStrictly (digests_of (y ∷ ys)) → ((q : List ℕ) → free_in q (x ∷ xs) ≡ free_in q (y ∷ ys)) → (q : List ℕ) → free_in q xs ≡ free_in q ys
 rests x y xs ys one up upper same q =
-    let upper = subst (λ n. Ascends (digests_of (n ∷ ys))) (sym one) upper in
+    let upper = subst (λ n. AscendStrictly (digests_of (n ∷ ys))) (sym one) upper in
     let same = subst (λ n. free_in q (x ∷ xs) ≡ free_in q (n ∷ ys)) (sym one) (same q) in
     rest_by (pointwise nat_eq q x.digest) x xs ys q refl (sorted_head order x.digest (digests_of xs) up) (sorted_head order x.digest (digests_of ys) upper) same
 
 -- two lists in order that name the same digests, each alike free, are one
-pub same_named : (xs ys : List Named) → Ascends (digests_of xs) → Ascends (digests_of ys) → ((q : List ℕ) → free_in q xs ≡ free_in q ys) → xs ≡ ys
+pub same_named : (xs ys : List Named) → AscendStrictly (digests_of xs) → AscendStrictly (digests_of ys) → ((q : List ℕ) → free_in q xs ≡ free_in q ys) → xs ≡ ys
 same_named [] [] up upper same = refl
 same_named [] (y ∷ ys) up upper same = not_some None y.free refl (same y.digest ∙ first_of y ys)
 same_named (x ∷ xs) [] up upper same = not_some None x.free refl (sym (same x.digest) ∙ first_of x xs)
@@ -92,7 +92,7 @@ free_in-marked q (d ∷ ds) =
     ap (λ o. cond (pointwise nat_eq q d) (Some true) o) (free_in-marked q ds) ∙ marked_by (pointwise nat_eq q d) (has_digest q ds)
 
 -- two lists in order that have the same digests are one
-pub same_digests : (ds es : List (List ℕ)) → Ascends ds → Ascends es → ((q : List ℕ) → has_digest q ds ≡ has_digest q es) → ds ≡ es
+pub same_digests : (ds es : List (List ℕ)) → AscendStrictly ds → AscendStrictly es → ((q : List ℕ) → has_digest q ds ≡ has_digest q es) → ds ≡ es
 same_digests ds es up upper same =
-    let one = same_named (marked ds) (marked es) (subst Ascends (sym (digests_of-marked ds)) up) (subst Ascends (sym (digests_of-marked es)) upper) (λ q. free_in-marked q ds ∙ ap (λ t. cond t (Some true) None) (same q) ∙ sym (free_in-marked q es)) in
+    let one = same_named (marked ds) (marked es) (subst AscendStrictly (sym (digests_of-marked ds)) up) (subst AscendStrictly (sym (digests_of-marked es)) upper) (λ q. free_in-marked q ds ∙ ap (λ t. cond t (Some true) None) (same q) ∙ sym (free_in-marked q es)) in
     sym (digests_of-marked ds) ∙ ap digests_of one ∙ digests_of-marked es

@@ -9,8 +9,8 @@ use Rattle.std.specs.Cmp.Lexicographic.{pointwise, slice_cmp, nat_list_eq_equiv}
 use Rattle.reg_names.specs.declared.named.Named.{Named}
 
 -- the digests ascend strictly: no one stands there twice
-abbrev pub Ascends : List (List ℕ) → Type 0
-Ascends digests = IsStrictlySortedBy (slice_cmp nat_cmp) digests
+abbrev pub AscendStrictly : List (List ℕ) → Type 0
+AscendStrictly digests = IsStrictlySortedBy (slice_cmp nat_cmp) digests
 
 -- the digest is among them
 abbrev pub has_digest : List ℕ → List (List ℕ) → Bool
