@@ -1,2 +1,3 @@
+pub mod Documents
 pub mod State
 pub mod Listing

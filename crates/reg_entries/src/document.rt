@@ -1,7 +1,17 @@
 //! What is kept of a manifest.
-use reg_names::{DigestList, Kind, NamedList};
+ghost use Rattle.std.specs.Prelude.{◌≡◌, ◌↔◌, IsTrue};
+ghost use Rattle.reg_names.specs.Named.{digests_of};
+ghost use Rattle.reg_names.specs.Reading.{ReadsExactly};
+ghost use Rattle.reg_entries.specs.Documents.{IsDigestList, IsKept, kept_of};
 
-/// What a state keeps of a manifest. Both lists ascend strictly by digest.
+use reg_names::{Digest, DigestList, Kind, Named, NamedList};
+use std::marker::Model;
+
+/// The most digests of a list.
+const LIST_LIMIT: usize = 65_535;
+
+/// What a state keeps of a manifest. Both lists ascend strictly by digest, and have at most 65,535 entries: a list is
+/// spelled with a count of two bytes where a state is written.
 #[derive(Debug, PartialEq, Eq, Drop)]
 pub struct Document {
     pub kind: Kind,
@@ -11,4 +21,45 @@ pub struct Document {
     pub named: NamedList,
     /// The digests of the listed manifests.
     pub children: DigestList,
+}
+
+impl Model for Document {
+    ghost use Rattle.reg_entries.specs.Documents.{KeptManifest, IsKept, kept_of};
+
+    ghost Value = { KeptManifest };
+
+    ghost view = { λ d. kept_of d.kind d.size d.named d.children };
+
+    ghost invariant = { λ d. IsKept (kept_of d.kind d.size d.named d.children) };
+
+    ghost inverse = { λ m. record { kind = m.kind; size = m.size; named = m.named; children = m.children } };
+}
+
+impl Document {
+    /// The document with these parts, and `None` exactly where a list does not ascend strictly, or is too long.
+    pub fn new(kind: Kind, size: u64, named: NamedList, children: DigestList) -> Option<Document>
+        ensures { ReadsExactly IsKept (kept_of kind size named children) result }
+    {
+        if !are_named(named.as_slice()) || !are_digests(children.as_slice()) {
+            return None;
+        }
+        Some(Document {
+            kind,
+            size,
+            named,
+            children,
+        })
+    }
+}
+
+fn are_named(named: &[Named]) -> bool
+    ensures { IsTrue result ↔ IsDigestList (digests_of named.now) }
+{
+    named.len() <= LIST_LIMIT && named.is_sorted_by(|one, next| one.digest < next.digest)
+}
+
+fn are_digests(digests: &[Digest]) -> bool
+    ensures { IsTrue result ↔ IsDigestList digests.now }
+{
+    digests.len() <= LIST_LIMIT && digests.is_sorted_by(|one, next| one < next)
 }

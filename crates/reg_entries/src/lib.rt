@@ -7,11 +7,7 @@
 
 mod document;
 mod laws;
-mod tags;
-#[cfg(test)]
-mod tests;
 
 pub use document::Document;
 pub use laws::{listings_agree, tags_that_follow_are_all};
-pub use reg_names::{DigestList, Kind, Named, NamedList};
-pub use tags::Tags;
+pub use reg_names::{DigestList, Kind, Named, NamedList, Tags};

@@ -2,7 +2,7 @@
 use Rattle.std.specs.Prelude.{◌≡◌, ◌≢◌, ℕ, List, Option, Some, None}
 
 -- The value is the text, which is in the grammar; nothing is read only where the text is not.
-abbrev pub ReadsExactly : (List ℕ → Type 0) → List ℕ → Option (List ℕ) → Type 0
+abbrev pub ReadsExactly : {T : Type 0} → (T → Type 0) → T → Option T → Type 0
 ReadsExactly IsIn text (Some value) = (value ≡ text) × IsIn text
 ReadsExactly IsIn text None = ¬ IsIn text
 
