@@ -1,12 +1,14 @@
 -- The texts of digests: each reads back to its digest, and no other text is read.
-use Rattle.std.proofs.Common.{◌≡◌, ◌≢◌, ℕ, Bool, true, false, cond, List, ◌∷◌, ◌++◌, length, drop, Option, Some, None, Result, Ok, Err, MatchOption, MatchResult, is_ok, Decides, nat_eq, codes, refl, sym, ap, ◌∙◌, subst, arith}
+use Rattle.std.proofs.Common.{◌≡◌, ◌≢◌, ℕ, Bool, true, false, cond, List, ◌∷◌, ◌++◌, ◌+◌, ◌*◌, length, length-append, drop, Option, Some, None, Result, Ok, Err, MatchResult, is_ok, Decides, nat_eq, codes, refl, sym, ap, ◌∙◌, subst, arith}
 use Rattle.std.specs.Bool.{then_some}
 use Rattle.std.specs.Cmp.Lexicographic.{pointwise}
 use Rattle.std.proofs.lemmas.Slice.Eq.{bytes_eq-Decides}
 use Rattle.hex.specs.Hex.{encode_lower, decode_sized}
 use Rattle.hex.specs.declared.error.FromHexError.{FromHexError}
-use Rattle.hex.proofs.HexLemmas.{decode_of-ok, decode_sized-ok, decode_sized-twice, decode_sized-encode_lower}
-use Rattle.reg_names.specs.Digests.{AreBytes, IsDigest, IsDigestText, digest_text, digest_spelled, digest_named}
+use Rattle.hex.proofs.HexLemmas.{length-encode_with, decode_of-ok, decode_sized-ok, decode_sized-twice, decode_sized-encode_lower}
+use Rattle.reg_names.specs.Limits.{digest_text_length}
+use Rattle.reg_names.specs.Reading.{ReadsBack}
+use Rattle.reg_names.specs.Digests.{AreBytes, IsDigest, digest_text, digest_spelled, digest_named}
 
 -- what decodes into room for 32 bytes is 32 bytes
 pub decoded : (digits raw : List ℕ) → decode_sized digits 32 ≡ Ok raw → (length raw ≡ 32) × AreBytes raw
@@ -73,10 +75,15 @@ pub digest_named-is : (text digest : List ℕ) → digest_named text ≡ Some di
 unfolding digest_named
 digest_named-is text digest h = decoded_is text digest (decode_sized (drop 7 text) 32) refl h
 
-exact_at : (text : List ℕ) (found : Option (List ℕ)) → digest_named text ≡ found → MatchOption found (¬ IsDigestText text) (λ d. IsDigest d × (text ≡ digest_text d))
-exact_at text None e = λ t. cc (e, digest_named-text t.0 t.1, ap digest_named t.2)
-exact_at text (Some digest) e = digest_named-is text digest e
+exact_at : (text : List ℕ) (found : Option (List ℕ)) → digest_named text ≡ found → ReadsBack IsDigest digest_text text found
+exact_at text None e = λ digest is same. cc (e, digest_named-text digest is, ap digest_named same)
+exact_at text (Some digest) e = let named = digest_named-is text digest e in (named.0, sym named.1)
 
 -- a text names a digest exactly where it is the text of one
-pub digest_named-exact : (text : List ℕ) → MatchOption (digest_named text) (¬ IsDigestText text) (λ d. IsDigest d × (text ≡ digest_text d))
+pub digest_named-exact : (text : List ℕ) → ReadsBack IsDigest digest_text text (digest_named text)
 digest_named-exact text = exact_at text (digest_named text) refl
+
+-- the text of a digest has 71 bytes
+pub length-digest_text : (digest : List ℕ) → IsDigest digest → length (digest_text digest) ≡ digest_text_length
+length-digest_text digest h =
+    rw h.is (length-append (codes "sha256:") (encode_lower h.raw) ∙ ap (λ n. 7 + n) (length-encode_with _ h.raw ∙ ap (λ n. 2 * n) h.long))

@@ -4,6 +4,7 @@ use Rattle.std.specs.Prelude.{◌≡◌, ℕ, ◌<◌, ◌++◌, nat_eq, if◌th
 use Rattle.std.specs.Cmp.Lexicographic.{pointwise}
 use Rattle.hex.specs.Hex.{encode_lower, decode_sized}
 use Rattle.hex.specs.declared.error.FromHexError.{FromHexError}
+use Rattle.reg_names.specs.Limits.{sha256_length}
 
 -- each element is a byte
 abbrev pub AreBytes : List ℕ → Type 0
@@ -13,7 +14,7 @@ AreBytes bytes = (i : ℕ) → slice_index bytes i < 256
 pub record IsSha256 (digest : List ℕ) : Type 0 where
   pub raw : List ℕ
   pub is : digest ≡ 1 ∷ raw
-  pub long : length raw ≡ 32
+  pub long : length raw ≡ sha256_length
   pub bytes : AreBytes raw
 
 abbrev pub IsDigest : List ℕ → Type 0
@@ -31,8 +32,4 @@ digest_spelled text (Err e) = None
 
 -- the digest whose text this is
 unfoldable pub digest_named : List ℕ → Option (List ℕ)
-digest_named text = digest_spelled text (decode_sized (drop 7 text) 32)
-
--- the text is that of some digest
-abbrev pub IsDigestText : List ℕ → Type 0
-IsDigestText text = (digest : List ℕ) × IsDigest digest × (text ≡ digest_text digest)
+digest_named text = digest_spelled text (decode_sized (drop 7 text) sha256_length)

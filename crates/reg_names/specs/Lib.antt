@@ -1,11 +1,13 @@
 pub mod Cause
 pub mod Refusals
+pub mod Limits
 pub mod Kinds
 pub mod Tags
 pub mod Names
 pub mod Digests
+pub mod InnerDigests
 pub mod Named
 pub mod Reading
-pub mod Scans
+pub mod InnerScans
 pub mod UploadIds
 pub mod References

@@ -1,6 +1,7 @@
 -- Repository names: components joined by `/`, at most 255 bytes in all, each component
 -- [a-z0-9]+((\.|_|__|-+)[a-z0-9]+)* (OCI Distribution Specification 1.1, "Pulling manifests").
 use Rattle.std.specs.Prelude.{ℕ, ◌++◌, ◌≤◌, Bool, true, false, ◌&&◌, ◌||◌, ◌==◌, nat_le, if◌then◌else◌, List, [], ◌∷◌, length, IsTrue}
+use Rattle.reg_names.specs.Limits.{name_limit}
 use Rattle.reg_names.specs.Tags.{is_lower, is_digit}
 
 -- a letter or digit of a name
@@ -31,7 +32,7 @@ abbrev mutual
   dashed (b ∷ bs) = if b == 45 then dashed bs else is_alphanumeric b && goes_on bs
 
 abbrev pub is_name : List ℕ → Bool
-is_name text = nat_le (length text) 255 && begins text
+is_name text = nat_le (length text) name_limit && begins text
 
 abbrev pub IsName : List ℕ → Type 0
 IsName text = IsTrue (is_name text)
@@ -67,5 +68,5 @@ pub data AreComponents : List ℕ → Type 0 where
 
 -- a repository name
 pub record IsRepositoryName (text : List ℕ) : Type 0 where
-  pub short : length text ≤ 255
+  pub short : length text ≤ name_limit
   pub components : AreComponents text

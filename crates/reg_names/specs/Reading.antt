@@ -1,5 +1,5 @@
 -- What it is to read a text exactly.
-use Rattle.std.specs.Prelude.{◌≡◌, ◌≢◌, ℕ, List, Option, Some, None}
+use Rattle.std.specs.Prelude.{◌≡◌, ◌≢◌, Option, Some, None}
 
 -- The value is the text, which is in the grammar; nothing is read only where the text is not.
 abbrev pub ReadsExactly : {T : Type 0} → (T → Type 0) → T → Option T → Type 0

@@ -1,6 +1,7 @@
 -- Tags: a letter, a digit or `_`, and up to 127 of these, `.` and `-` (OCI Distribution Specification 1.1, "Pulling manifests").
-use Rattle.std.specs.Prelude.{ℕ, Bool, false, ◌&&◌, ◌||◌, ◌==◌, nat_le, List, [], ◌∷◌, length, IsTrue}
+use Rattle.std.specs.Prelude.{ℕ, Bool, false, ◌&&◌, ◌||◌, ◌==◌, ◌-◌, nat_le, List, [], ◌∷◌, length, IsTrue}
 use Rattle.std.specs.List.{list_all}
+use Rattle.reg_names.specs.Limits.{tag_limit}
 
 abbrev pub is_lower : ℕ → Bool
 is_lower b = nat_le 97 b && nat_le b 122
@@ -21,7 +22,7 @@ is_tag_byte b = is_word b || b == 46 || b == 45
 
 abbrev pub is_tag : List ℕ → Bool
 is_tag [] = false
-is_tag (first ∷ rest) = is_word first && nat_le (length rest) 127 && list_all is_tag_byte rest
+is_tag (first ∷ rest) = is_word first && nat_le (length rest) (tag_limit - 1) && list_all is_tag_byte rest
 
 abbrev pub IsTag : List ℕ → Type 0
 IsTag text = IsTrue (is_tag text)

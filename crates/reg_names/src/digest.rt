@@ -1,11 +1,13 @@
 //! Digests.
-ghost use Rattle.std.specs.Prelude.{◌≡◌, ℕ, List, ◌∷◌, drop, codes, MatchOption, IfOk};
+ghost use Rattle.std.specs.Prelude.{◌≡◌, ℕ, List, ◌∷◌, drop, length, codes, IfOk};
 ghost use Rattle.std.specs.Ordering.{nat_cmp};
 ghost use Rattle.std.specs.Cmp.Lexicographic.{slice_cmp};
 ghost use Rattle.hex.specs.Hex.{encode_lower};
-ghost use Rattle.reg_names.specs.Digests.{IsDigest, IsDigestText, digest_text, digest_named};
+ghost use Rattle.reg_names.specs.Digests.{IsDigest, digest_text, digest_named};
+ghost use Rattle.reg_names.specs.Limits.{digest_text_length};
+ghost use Rattle.reg_names.specs.Reading.{ReadsBack};
 
-use crate::{NoMemory, Text};
+use crate::{NoMemory, SHA256_LENGTH, Text};
 use std::alloc::Global;
 use std::cmp::Ordering;
 use std::marker::Model;
@@ -14,25 +16,26 @@ use std::marker::Model;
 /// hexadecimal digits. Contracts see its algorithm's byte, 1, and then its 32 bytes.
 #[derive(Clone, Copy, Debug)]
 pub struct Digest {
-    raw: [u8; 32],
+    raw: [u8; SHA256_LENGTH],
 }
 
 impl Model for Digest {
     ghost use Rattle.std.specs.Prelude.{List, ℕ, ◌∷◌, drop, ◌≡◌, length};
     ghost use Rattle.reg_names.specs.Digests.{AreBytes};
+    ghost use Rattle.reg_names.specs.Limits.{sha256_length};
 
     ghost Value = { List ℕ };
 
     ghost view = { λ d. 1 ∷ d.raw };
 
-    ghost invariant = { λ d. (length d.raw ≡ 32) × AreBytes d.raw };
+    ghost invariant = { λ d. (length d.raw ≡ sha256_length) × AreBytes d.raw };
 
     ghost inverse = { λ digest. record { raw = drop 1 digest } };
 }
 
 impl Digest {
     /// The SHA-256 digest with these bytes. It takes no memory.
-    pub fn from_sha256(raw: [u8; 32]) -> Digest
+    pub fn from_sha256(raw: [u8; SHA256_LENGTH]) -> Digest
         ensures { result ≡ 1 ∷ raw }
     {
         Digest { raw }
@@ -49,7 +52,7 @@ impl Digest {
     /// The digest whose text this is, and `None` exactly where it is no digest's: one in capitals, of another algorithm
     /// or of another length is none. It takes no memory.
     pub fn read(text: &str) -> Option<Digest>
-        ensures exact { MatchOption result (¬ IsDigestText text.now) (λ d. IsDigest d × (text.now ≡ digest_text d)) }
+        ensures exact { ReadsBack IsDigest digest_text text.now result }
         ensures value { result ≡ digest_named text.now }
     {
         Digest::read_bytes(text.as_bytes())
@@ -57,11 +60,11 @@ impl Digest {
 
     /// The same of bytes that may be no text.
     pub fn read_bytes(text: &[u8]) -> Option<Digest>
-        ensures exact { MatchOption result (¬ IsDigestText text.now) (λ d. IsDigest d × (text.now ≡ digest_text d)) }
+        ensures exact { ReadsBack IsDigest digest_text text.now result }
         ensures value { result ≡ digest_named text.now }
     {
         let digits = text.strip_prefix(b"sha256:")?;
-        let mut raw = [0; 32];
+        let mut raw = [0; SHA256_LENGTH];
         hex::decode_to_slice(digits, &mut raw).ok()?;
         (digits == digits_of(&raw).as_slice()).then_some(Digest { raw })
     }
@@ -85,7 +88,7 @@ impl Digest {
 }
 
 // The 64 lower-case digits of 32 bytes.
-fn digits_of(raw: &[u8; 32]) -> [u8; 64]
+fn digits_of(raw: &[u8; SHA256_LENGTH]) -> [u8; 64]
     ensures { result ≡ encode_lower raw.now }
 {
     let mut digits = [0; 64];
@@ -97,6 +100,11 @@ fn digits_of(raw: &[u8; 32]) -> [u8; 64]
 /// The text of each digest reads back to that digest.
 pub fn digests_read_back()
     ensures { (digest : List ℕ) → IsDigest digest → digest_named (digest_text digest) ≡ Some digest }
+{}
+
+/// The text of a digest has 71 bytes.
+pub fn digest_texts_have_one_length()
+    ensures { (digest : List ℕ) → IsDigest digest → length (digest_text digest) ≡ digest_text_length }
 {}
 
 /// The order of digests is that of their texts.

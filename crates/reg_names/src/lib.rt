@@ -9,20 +9,22 @@ mod by_bytes;
 mod bytes;
 mod digest;
 mod kind;
+mod limits;
 mod list;
 mod name;
 mod named;
 mod reference;
 mod refused;
 mod tag;
-#[cfg(test)]
-mod tests;
 mod text;
 mod upload_id;
 
 pub use bytes::Bytes;
-pub use digest::{Digest, digests_are_ordered_as_texts, digests_read_back};
+pub use digest::{
+    Digest, digest_texts_have_one_length, digests_are_ordered_as_texts, digests_read_back,
+};
 pub use kind::{Kind, media_types_are_apart};
+pub use limits::{DIGEST_TEXT_LENGTH, NAME_LIMIT, SHA256_LENGTH, TAG_LIMIT};
 pub use list::{DigestList, ListOf, NamedList, Tags};
 pub use name::{Name, names_are_the_grammar};
 pub use named::Named;

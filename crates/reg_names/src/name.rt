@@ -2,15 +2,12 @@
 ghost use Rattle.std.specs.Prelude.{◌≡◌, ◌↔◌, List, ℕ, IfOk};
 ghost use Rattle.reg_names.specs.Reading.{ReadsExactly};
 ghost use Rattle.reg_names.specs.Names.{is_name, IsName, IsRepositoryName};
-ghost use Rattle.reg_names.specs.Scans.{next_spot};
+ghost use Rattle.reg_names.specs.InnerScans.{next_spot};
 
-use crate::{NoMemory, Text};
+use crate::{NAME_LIMIT, NoMemory, Text};
 use std::alloc::Global;
 use std::marker::Model;
 use std::str;
-
-// The length of the longest name.
-const LONGEST: usize = 255;
 
 /// A repository name (OCI Distribution Specification 1.1, "Pulling manifests"): components joined by `/`,
 /// at most 255 bytes in all.
@@ -112,7 +109,7 @@ impl Spot {
 fn is_name_text(text: &[u8]) -> bool
     ensures { result ≡ is_name text.now }
 {
-    if text.len() > LONGEST {
+    if text.len() > NAME_LIMIT {
         return false;
     }
     let mut spot = Spot::Begin;

@@ -3,13 +3,10 @@ ghost use Rattle.std.specs.Prelude.{◌≡◌, IfOk};
 ghost use Rattle.reg_names.specs.Reading.{ReadsExactly};
 ghost use Rattle.reg_names.specs.Tags.{is_word, is_tag_byte, is_tag, IsTag};
 
-use crate::{NoMemory, Text};
+use crate::{NoMemory, TAG_LIMIT, Text};
 use std::alloc::Global;
 use std::marker::Model;
 use std::str;
-
-// The length of the longest tag.
-const LONGEST: usize = 128;
 
 /// A tag of a repository (OCI Distribution Specification 1.1, "Pulling manifests"): 1 to 128 bytes, a
 /// letter, a digit or `_` first, and then also `.` and `-`.
@@ -89,7 +86,7 @@ fn is_tag_text(text: &[u8]) -> bool
     match text.split_first() {
         Some((first, rest)) => {
             is_word_byte(*first)
-                && rest.len() < LONGEST
+                && rest.len() < TAG_LIMIT
                 && rest
                     .iter()
                     .all(|b| is_word_byte(*b) || *b == b'.' || *b == b'-')

@@ -1,6 +1,6 @@
 use Rattle.std.proofs.Common.{◌≡◌, drop}
 use Rattle.reg_names.specs.Names.{begins}
-use Rattle.reg_names.specs.Scans.{accepts}
+use Rattle.reg_names.specs.InnerScans.{accepts}
 use Rattle.reg_names.proofs.name.is_name_text.Given as goal
 
 -- The text is a name where the bytes to come are accepted from here.

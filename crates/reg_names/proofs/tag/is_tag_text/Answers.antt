@@ -6,7 +6,7 @@ use Rattle.std.proofs.lemmas.Bool.Decides.{nat_tests}
 use Rattle.reg_names.specs.Tags.{is_tag_byte}
 use Rattle.reg_names.proofs.tag.is_tag_text.Goals as goal
 
-pub returns-then-rest-lt-LONGEST : goal.returns-then-rest-lt-LONGEST
-returns-then-rest-lt-LONGEST c =
+pub returns-then-rest-lt-TAG_LIMIT : goal.returns-then-rest-lt-TAG_LIMIT
+returns-then-rest-lt-TAG_LIMIT c =
     let rest = all_from_yields_List is_tag_byte _ _ c.all.result c.all.ensures.ran (YieldsList-from_slice c.in-Some.rest.now cc) (λ x b q k. search (rules, tests)) in
     rw c.in-Some.ensures.cases.0 (grind (arith, nat_tests))

@@ -1,3 +1,4 @@
+-- The proof's own: no public clause cites what stands here.
 -- The scan of a name by one byte after another.
 use Rattle.std.specs.Prelude.{ℕ, Bool, ◌||◌, ◌==◌, if◌then◌else◌, List, Option, Some, None}
 use Rattle.reg_names.specs.declared.name.Spot.{Spot}
