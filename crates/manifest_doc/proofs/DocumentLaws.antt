@@ -14,9 +14,10 @@ use Rattle.manifest_doc.specs.declared.document.Doc.{Doc}
 use Rattle.manifest_doc.specs.declared.fault.DocFault.{DocFault}
 use Rattle.manifest_doc.specs.declared.fault.DocFault.TheVariants.{NotJson, NoKind, BadDescriptor, TooMany, NoMemory}
 use Rattle.manifest_doc.specs.Faults.{IsDue}
+use Rattle.manifest_doc.specs.InnerReading.{config_read}
 use Rattle.manifest_doc.specs.Kinds.{object_in, kind_of_object}
 use Rattle.manifest_doc.specs.Descriptors.{elements, described, is_descriptor, descriptors}
-use Rattle.manifest_doc.specs.Documents.{is_small, judged, verdict, config_read, config, layers, manifests, is_of, is_named, AreNamed, AreChildren, IsObjectDocument, IsDocument}
+use Rattle.manifest_doc.specs.Documents.{is_small, judged, verdict, config, layers, manifests, is_of, is_named, AreNamed, AreChildren, IsObjectDocument, IsDocument}
 use Rattle.manifest_doc.specs.declared.descriptors.Descriptor.{Descriptor}
 
 fault_of : (o : Option Data) (f : Data → Result Kind DocFault) (fault : DocFault) → ok_or o NotJson ≡ Err fault → option_map_or f o (Err NotJson) ≡ Err fault

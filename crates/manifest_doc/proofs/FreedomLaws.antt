@@ -6,8 +6,8 @@ use Rattle.std.specs.List.{list_any, list_all}
 use Rattle.std.specs.Ordering.{nat_cmp}
 use Rattle.std.specs.Cmp.Lexicographic.{pointwise, slice_cmp, same_text}
 use Rattle.std.specs.BTreeMap.{is_at}
-use Rattle.manifest_doc.specs.Documents.{is_of}
-use Rattle.manifest_doc.specs.Noting.{Freedoms, with_note, freedom}
+use Rattle.manifest_doc.specs.Documents.{is_of, freedom}
+use Rattle.manifest_doc.specs.InnerNoting.{Freedoms, with_note}
 use Rattle.manifest_doc.proofs.ListLaws.{same_key}
 use Rattle.manifest_doc.specs.declared.descriptors.Descriptor.{Descriptor}
 

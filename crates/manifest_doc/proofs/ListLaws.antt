@@ -10,8 +10,7 @@ use Rattle.std.specs.BTreeMap.{is_at}
 use Rattle.std.specs.Cmp.Lexicographic.{pointwise, slice_cmp, texts_ties, nat_list_eq_equiv}
 use Rattle.reg_names.specs.declared.named.Named.{Named}
 use Rattle.reg_names.specs.Named.{digests_of, free_in, has_digest}
-use Rattle.manifest_doc.specs.Documents.{is_of, AreNamed, AreChildren}
-use Rattle.manifest_doc.specs.Noting.{freedom}
+use Rattle.manifest_doc.specs.Documents.{is_of, freedom, AreNamed, AreChildren}
 use Rattle.manifest_doc.specs.declared.descriptors.Descriptor.{Descriptor}
 
 -- whether a key is a digest

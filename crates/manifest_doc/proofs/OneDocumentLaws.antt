@@ -13,14 +13,14 @@ use Rattle.std.proofs.lemmas.Map.Keys.{sorted_head, sorted_tail}
 use Rattle.serde_json.specs.Data.{Data}
 use Rattle.reg_names.specs.declared.kind.Kind.{Kind}
 use Rattle.reg_names.specs.declared.named.Named.{Named}
-use Rattle.reg_names.specs.Named.{Ascends, digests_of, free_in, has_digest}
+use Rattle.reg_names.specs.Named.{AscendStrictly, digests_of, free_in, has_digest}
 use Rattle.manifest_doc.specs.declared.document.Doc.{Doc}
 use Rattle.manifest_doc.specs.declared.fault.DocFault.{DocFault}
 use Rattle.manifest_doc.specs.declared.fault.DocFault.TheVariants.{NotJson}
 use Rattle.manifest_doc.specs.declared.descriptors.Descriptor.{Descriptor}
 use Rattle.manifest_doc.specs.Kinds.{object_in}
 use Rattle.manifest_doc.specs.Documents.{judged, verdict, config, layers, manifests, is_of, is_named, is_free, AreNamed, AreChildren, IsObjectDocument, IsDocument}
-use Rattle.manifest_doc.specs.OneDocument.{put_by, with_digest, in_order, digests_in, occurring, named_in, document_of, document_in}
+use Rattle.manifest_doc.specs.OneDocument.{put_by, with_digest, in_order, digests_in, occurring, named_in, document_by, document_of, document_in}
 use Rattle.manifest_doc.proofs.DocumentLaws.{one_document, passes}
 
 -- ---- lists in order
@@ -45,27 +45,27 @@ above_with : (k digest : List ℕ) (ds : List (List ℕ)) → order k digest ≡
 above_with k digest [] less all = (less, tt)
 above_with k digest (d ∷ ds) less all = above_put (order digest d) k digest d ds (with_digest digest ds) less all.0 all.1 (above_with k digest ds less all.1)
 
-sorted_put : (o : Ordering) (digest first : List ℕ) (rest put : List (List ℕ)) → order digest first ≡ o → Ascends (first ∷ rest) → (order first digest ≡ Less → Above first put) → Ascends put → Ascends (put_by o digest first rest put)
+sorted_put : (o : Ordering) (digest first : List ℕ) (rest put : List (List ℕ)) → order digest first ≡ o → AscendStrictly (first ∷ rest) → (order first digest ≡ Less → Above first put) → AscendStrictly put → AscendStrictly (put_by o digest first rest put)
 unfolding IsStrictlySortedBy
 sorted_put Less digest first rest put is up above more = ((is, above_more digest first rest is up.0), up)
 sorted_put Equal digest first rest put is up above more = up
 sorted_put Greater digest first rest put is up above more =
     (above (nat_list_cmp_total.antisymm first digest ∙ ap ordering_reverse is), more)
 
-single : (digest : List ℕ) → Ascends (digest ∷ [])
+single : (digest : List ℕ) → AscendStrictly (digest ∷ [])
 unfolding IsStrictlySortedBy
 single digest = (tt, tt)
 
-ascends_nil : Ascends []
+ascends_nil : AscendStrictly []
 unfolding IsStrictlySortedBy
 ascends_nil = tt
 
-sorted_with : (digest : List ℕ) (ds : List (List ℕ)) → Ascends ds → Ascends (with_digest digest ds)
+sorted_with : (digest : List ℕ) (ds : List (List ℕ)) → AscendStrictly ds → AscendStrictly (with_digest digest ds)
 sorted_with digest [] up = single digest
 sorted_with digest (d ∷ ds) up =
     sorted_put (order digest d) digest d ds (with_digest digest ds) refl up (λ less. above_with d digest ds less (sorted_head order d ds up)) (sorted_with digest ds (sorted_tail order d ds up))
 
-sorted : (ds : List (List ℕ)) → Ascends (in_order ds)
+sorted : (ds : List (List ℕ)) → AscendStrictly (in_order ds)
 sorted [] = ascends_nil
 sorted (d ∷ ds) = sorted_with d (in_order ds) (sorted ds)
 
@@ -123,7 +123,7 @@ named_are : (config : Option Descriptor) (es : List Descriptor) → AreNamed con
 named_are config es =
     let free = λ (q : List ℕ). is_free q config es in
     record {
-      ascending = subst Ascends (sym (digests_of-entries free (in_order (occurring config es)))) (sorted (occurring config es));
+      ascending = subst AscendStrictly (sym (digests_of-entries free (in_order (occurring config es)))) (sorted (occurring config es));
       exact = λ q. free_in-entries free q (in_order (occurring config es)) ∙ ap (λ b. cond b (Some (free q)) None) (has_in_order q (occurring config es) ∙ has_occurring q config es);
     }
 
@@ -135,15 +135,12 @@ children_are es = record {
 
 -- ---- the document
 
-abbrev pub doc_by : Data → Kind → Doc
-doc_by d kind = record { kind = kind; named = named_in (config d) (layers d); children = in_order (digests_in (manifests d)) }
-
-pub doc_is : (d : Data) (kind : Kind) → judged d ≡ Ok kind → IsObjectDocument d (doc_by d kind)
+pub doc_is : (d : Data) (kind : Kind) → judged d ≡ Ok kind → IsObjectDocument d (document_by d kind)
 doc_is d kind is = record { kind = is; named = named_are (config d) (layers d); children = children_are (manifests d) }
 
-from_verdict : (r : Result Kind DocFault) (d : Data) (doc : Doc) → judged d ≡ r → option_map (doc_by d) (result_ok r) ≡ Some doc → IsObjectDocument d doc
+from_verdict : (r : Result Kind DocFault) (d : Data) (doc : Doc) → judged d ≡ r → option_map (document_by d) (result_ok r) ≡ Some doc → IsObjectDocument d doc
 from_verdict (Ok kind) d doc is e =
-    let same : doc_by d kind ≡ doc = cc e in
+    let same : document_by d kind ≡ doc = cc e in
     subst (IsObjectDocument d) same (doc_is d kind is)
 from_verdict (Err fault) d doc is e = absurd (cc e)
 
@@ -155,15 +152,15 @@ from_computed : (bytes : List ℕ) (doc : Doc) → document_in bytes ≡ Some do
 unfolding document_in
 from_computed bytes doc e = from_object (object_in bytes) bytes doc refl e
 
-of_object : (bytes : List ℕ) (doc : Doc) (h : IsDocument bytes doc) → document_in bytes ≡ Some (doc_by h.object doc.kind)
+of_object : (bytes : List ℕ) (doc : Doc) (h : IsDocument bytes doc) → document_in bytes ≡ Some (document_by h.object doc.kind)
 unfolding document_in
-of_object bytes doc h = ap (option_and_then document_of) h.is ∙ ap (λ r. option_map (doc_by h.object) (result_ok r)) h.document.kind
+of_object bytes doc h = ap (option_and_then document_of) h.is ∙ ap (λ r. option_map (document_by h.object) (result_ok r)) h.document.kind
 
 -- a document is what is computed of its bytes
 pub computes : (bytes : List ℕ) (doc : Doc) → IsDocument bytes doc → document_in bytes ≡ Some doc
 computes bytes doc h =
     let found = of_object bytes doc h in
-    found ∙ ap Some (one_document bytes (doc_by h.object doc.kind) doc (from_computed bytes (doc_by h.object doc.kind) found) h)
+    found ∙ ap Some (one_document bytes (document_by h.object doc.kind) doc (from_computed bytes (document_by h.object doc.kind) found) h)
 
 pub computed : (bytes : List ℕ) (doc : Doc) → (document_in bytes ≡ Some doc) ↔ IsDocument bytes doc
 computed bytes doc = (from_computed bytes doc, computes bytes doc)
@@ -174,7 +171,7 @@ unfolding verdict
 has_document bytes kind passed = at_found (object_in bytes) refl passed where
   at_found : (o : Option Data) → object_in bytes ≡ o → option_map_or judged o (Err NotJson) ≡ Ok kind → (doc : Doc) × IsDocument bytes doc
   at_found None is e = absurd (cc e)
-  at_found (Some d) is e = (doc_by d kind, record { object = d; is = is; document = doc_is d kind e })
+  at_found (Some d) is e = (document_by d kind, record { object = d; is = is; document = doc_is d kind e })
 
 -- nothing is computed of bytes that fail a test
 pub not_computed : (bytes : List ℕ) (fault : DocFault) → verdict bytes ≡ Err fault → document_in bytes ≡ None

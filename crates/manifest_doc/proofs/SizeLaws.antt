@@ -20,9 +20,9 @@ use Rattle.manifest_doc.specs.declared.descriptors.Descriptor.{Descriptor}
 use Rattle.manifest_doc.specs.Kinds.{kind_of_object}
 use Rattle.manifest_doc.specs.Descriptors.{elements, described, descriptors}
 use Rattle.manifest_doc.specs.Documents.{element_limit, is_small, has_descriptors, config, layers, manifests, is_free, IsDocument}
-use Rattle.manifest_doc.specs.OneDocument.{put_by, with_digest, in_order, digests_in, occurring, named_in}
+use Rattle.manifest_doc.specs.OneDocument.{put_by, with_digest, in_order, digests_in, occurring, named_in, document_by}
 use Rattle.manifest_doc.proofs.DocumentLaws.{one_document}
-use Rattle.manifest_doc.proofs.OneDocumentLaws.{doc_by, doc_is}
+use Rattle.manifest_doc.proofs.OneDocumentLaws.{doc_is}
 
 -- ---- a list in order is no longer than the digests that were put
 
@@ -59,7 +59,7 @@ occurring-length (Some c) es = rw (length-map es (λ e. e.digest)) (omega arith)
 named_in-length : (o : Option Descriptor) (es : List Descriptor) → length (named_in o es) ≤ length es + 1
 named_in-length o es =
     rw (length-map {B = Named} (in_order (occurring o es)) (λ digest. record { digest = digest; free = is_free digest o es }))
-      (le_trans (in_order-length (occurring o es)) (occurring-length o es))
+    (le_trans (in_order-length (occurring o es)) (occurring-length o es))
 
 children-in : (es : List Descriptor) → length (in_order (digests_in es)) ≤ length es
 children-in es = let h = in_order-length (digests_in es) in rw (length-map es (λ e. e.digest)) at h
@@ -84,9 +84,9 @@ are_few bytes doc h =
     let p = both_few _ _ (small_at (kind_of_object h.object) (is_small h.object) (has_descriptors h.object) doc.kind h.document.kind) in
     record { layers = p.0; manifests = p.1 }
 
-same_document : (bytes : List ℕ) (doc : Doc) (h : IsDocument bytes doc) → doc_by h.object doc.kind ≡ doc
+same_document : (bytes : List ℕ) (doc : Doc) (h : IsDocument bytes doc) → document_by h.object doc.kind ≡ doc
 same_document bytes doc h =
-    one_document bytes (doc_by h.object doc.kind) doc (record { object = h.object; is = h.is; document = doc_is h.object doc.kind h.document.kind }) h
+    one_document bytes (document_by h.object doc.kind) doc (record { object = h.object; is = h.is; document = doc_is h.object doc.kind h.document.kind }) h
 
 -- it names at most 1,025 digests
 pub named-length : (bytes : List ℕ) (doc : Doc) → IsDocument bytes doc → length doc.named ≤ element_limit + 1

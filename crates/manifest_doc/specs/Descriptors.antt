@@ -34,7 +34,9 @@ is_size d = is_some (number_in d)
 
 -- the members beside the digest are as they should be
 abbrev pub has_fields : Data → Bool
-has_fields d = has (codes "mediaType") is_string d && has (codes "size") is_size d && option_map_or are_strings (get (codes "urls") d) true
+has_fields d =
+    has (codes "mediaType") is_string d && has (codes "size") is_size d
+    && option_map_or are_strings (get (codes "urls") d) true
 
 -- the digest that the member `digest` is the text of
 abbrev pub digest_in : Data → Option (List ℕ)
@@ -46,7 +48,9 @@ has_urls d = nat_lt 0 (length (elements (codes "urls") d))
 
 -- the descriptor that a value is
 abbrev pub described : Data → Option Descriptor
-described d = if has_fields d then option_map (λ digest. record { digest = digest; has_urls = has_urls d }) (digest_in d) else None
+described d =
+    if has_fields d then option_map (λ digest. record { digest = digest; has_urls = has_urls d }) (digest_in d)
+    else None
 
 abbrev pub is_descriptor : Data → Bool
 is_descriptor d = is_some (described d)

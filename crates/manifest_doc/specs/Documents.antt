@@ -7,7 +7,7 @@ use Rattle.serde_json.specs.Data.{Data}
 use Rattle.serde_json.specs.Find.{get}
 use Rattle.reg_names.specs.declared.kind.Kind.{Kind}
 use Rattle.reg_names.specs.declared.named.Named.{Named}
-use Rattle.reg_names.specs.Named.{Ascends, digests_of, free_in, has_digest}
+use Rattle.reg_names.specs.Named.{AscendStrictly, digests_of, free_in, has_digest}
 use Rattle.manifest_doc.specs.Kinds.{object_in, kind_of_object}
 use Rattle.manifest_doc.specs.Descriptors.{elements, described, is_descriptor, descriptors}
 use Rattle.manifest_doc.specs.declared.descriptors.Descriptor.{Descriptor}
@@ -23,15 +23,23 @@ element_limit = 1024
 
 -- neither list has more elements than it may have
 abbrev pub is_small : Data → Bool
-is_small d = nat_le (length (elements (codes "layers") d)) element_limit && nat_le (length (elements (codes "manifests") d)) element_limit
+is_small d =
+    nat_le (length (elements (codes "layers") d)) element_limit
+    && nat_le (length (elements (codes "manifests") d)) element_limit
 
 -- the configuration, where there is one, each layer and each listed manifest is a descriptor
 abbrev pub has_descriptors : Data → Bool
-has_descriptors d = option_map_or is_descriptor (get (codes "config") d) true && list_all is_descriptor (elements (codes "layers") d) && list_all is_descriptor (elements (codes "manifests") d)
+has_descriptors d =
+    option_map_or is_descriptor (get (codes "config") d) true
+    && list_all is_descriptor (elements (codes "layers") d)
+    && list_all is_descriptor (elements (codes "manifests") d)
 
 -- the kind of an object that passes the tests, or the first that it fails
 abbrev pub judged : Data → Result Kind DocFault
-judged d = option_map_or (λ kind. if not (is_small d) then Err TooMany else if not (has_descriptors d) then Err BadDescriptor else Ok kind) (kind_of_object d) (Err NoKind)
+judged d =
+    option_map_or
+    (λ kind. if not (is_small d) then Err TooMany else if not (has_descriptors d) then Err BadDescriptor else Ok kind)
+    (kind_of_object d) (Err NoKind)
 
 -- the kind of a document, or the first test that the bytes fail
 unfoldable pub verdict : List ℕ → Result Kind DocFault
@@ -58,17 +66,22 @@ is_named digest config layers = option_map_or (is_of digest) config false || lis
 
 -- each occurrence of the digest is a layer with URLs
 abbrev pub is_free : List ℕ → Option Descriptor → List Descriptor → Bool
-is_free digest config layers = not (option_map_or (is_of digest) config false) && list_all (λ e. not (is_of digest e) || e.has_urls) layers
+is_free digest config layers =
+    not (option_map_or (is_of digest) config false) && list_all (λ e. not (is_of digest e) || e.has_urls) layers
+
+-- whether a digest that is named is free
+abbrev pub freedom : List ℕ → Option Descriptor → List Descriptor → Option Bool
+freedom digest config layers = if is_named digest config layers then Some (is_free digest config layers) else None
 
 -- The entries are in order, and are exactly the digests that the configuration or a layer names, each free exactly
 -- where each of its occurrences is a layer with URLs.
 pub record AreNamed (config : Option Descriptor) (layers : List Descriptor) (named : List Named) : Type 0 where
-  pub ascending : Ascends (digests_of named)
-  pub exact : (digest : List ℕ) → free_in digest named ≡ (if is_named digest config layers then Some (is_free digest config layers) else None)
+  pub ascending : AscendStrictly (digests_of named)
+  pub exact : (digest : List ℕ) → free_in digest named ≡ freedom digest config layers
 
 -- The digests are in order, and are exactly those of the listed manifests.
 pub record AreChildren (manifests : List Descriptor) (children : List (List ℕ)) : Type 0 where
-  pub ascending : Ascends children
+  pub ascending : AscendStrictly children
   pub exact : (digest : List ℕ) → has_digest digest children ≡ list_any (is_of digest) manifests
 
 -- The object passes the tests, and the value tells its kind, what it names and what it lists.
@@ -82,10 +95,3 @@ pub record IsDocument (bytes : List ℕ) (doc : Doc) : Type 0 where
   pub object : Data
   pub is : object_in bytes ≡ Some object
   pub document : IsObjectDocument object doc
-
--- ---- what is read of an object
-
--- the configuration's descriptor, where there is a configuration
-abbrev pub config_read : Option Data → Result (Option Descriptor) DocFault
-config_read None = Ok None
-config_read (Some d) = option_map_or (λ e. Ok (Some e)) (described d) (Err BadDescriptor)

@@ -1,5 +1,5 @@
 -- Which fault a call that judges bytes may answer.
-use Rattle.std.specs.Prelude.{◌≡◌, Bool, if◌then◌else◌, Result, Ok, Err, ⊤}
+use Rattle.std.specs.Prelude.{◌≡◌, Result, Err, ⊤}
 use Rattle.manifest_doc.specs.declared.fault.DocFault.{DocFault}
 use Rattle.manifest_doc.specs.declared.fault.DocFault.TheVariants.{NotJson, NoKind, BadDescriptor, TooMany, NoMemory}
 
@@ -10,7 +10,3 @@ IsDue due NoKind = due ≡ Err NoKind
 IsDue due BadDescriptor = due ≡ Err BadDescriptor
 IsDue due TooMany = due ≡ Err TooMany
 IsDue due NoMemory = ⊤
-
--- BadDescriptor, where this does not hold
-abbrev pub bad_unless : Bool → Result ⊤ DocFault
-bad_unless holds = if holds then Ok tt else Err BadDescriptor

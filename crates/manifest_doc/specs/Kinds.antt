@@ -20,7 +20,8 @@ is_array d = is_some (as_array d)
 
 -- the object that the bytes are as JSON (RFC 8259), nested at most 127 deep; of members with one name the last counts
 unfoldable pub object_in : List ℕ → Option Data
-object_in bytes = if is_utf8 bytes then option_and_then (λ d. if is_object d then Some d else None) (read bytes) else None
+object_in bytes =
+    if is_utf8 bytes then option_and_then (λ d. if is_object d then Some d else None) (read bytes) else None
 
 -- ---- its members
 
@@ -50,7 +51,9 @@ kind_by_members _ _ = None
 -- the kind that the media type names, and without one the kind that the other members tell
 abbrev pub kind_named_by : Option Data → Data → Option Kind
 kind_named_by (Some media_type) d = option_and_then kind_named (as_str media_type)
-kind_named_by None d = kind_by_members (is_some (get (codes "config") d) && is_some (get (codes "layers") d)) (is_some (get (codes "manifests") d))
+kind_named_by None d =
+    kind_by_members
+    (is_some (get (codes "config") d) && is_some (get (codes "layers") d)) (is_some (get (codes "manifests") d))
 
 abbrev pub kind_told : Data → Option Kind
 kind_told d = kind_named_by (get (codes "mediaType") d) d
@@ -70,4 +73,6 @@ has_shape DockerList = is_index
 
 -- the kind of an object, where it has one
 abbrev pub kind_of_object : Data → Option Kind
-kind_of_object d = if has_version_two d then option_and_then (λ kind. if has_shape kind d then Some kind else None) (kind_told d) else None
+kind_of_object d =
+    if has_version_two d then option_and_then (λ kind. if has_shape kind d then Some kind else None) (kind_told d)
+    else None

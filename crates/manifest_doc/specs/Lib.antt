@@ -3,6 +3,7 @@ pub mod Kinds
 pub mod Descriptors
 pub mod Documents
 pub mod Members
-pub mod Noting
+pub mod InnerNoting
+pub mod InnerReading
 pub mod OneDocument
 pub mod Stored

@@ -13,11 +13,14 @@ tells_digest digest d = option_map_or (pointwise nat_eq digest) (digest_in d) fa
 
 -- the member `config`, or an element of `layers`, tells the digest
 abbrev pub names_digest : List ℕ → Data → Bool
-names_digest digest d = has (codes "config") (tells_digest digest) d || list_any (tells_digest digest) (elements (codes "layers") d)
+names_digest digest d =
+    has (codes "config") (tells_digest digest) d || list_any (tells_digest digest) (elements (codes "layers") d)
 
 -- `config` does not tell the digest, and in each element of `layers` that tells it, `urls` has an element
 abbrev pub frees_digest : List ℕ → Data → Bool
-frees_digest digest d = not (has (codes "config") (tells_digest digest) d) && list_all (λ layer. not (tells_digest digest layer) || has_urls layer) (elements (codes "layers") d)
+frees_digest digest d =
+    not (has (codes "config") (tells_digest digest) d)
+    && list_all (λ layer. not (tells_digest digest layer) || has_urls layer) (elements (codes "layers") d)
 
 -- an element of `manifests` tells the digest
 abbrev pub lists_digest : List ℕ → Data → Bool

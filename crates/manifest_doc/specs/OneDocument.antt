@@ -7,6 +7,7 @@ use Rattle.std.specs.declared.cmp.Ordering.TheVariants.{Less, Equal, Greater}
 use Rattle.std.specs.Ordering.{nat_cmp}
 use Rattle.std.specs.Cmp.Lexicographic.{slice_cmp}
 use Rattle.serde_json.specs.Data.{Data}
+use Rattle.reg_names.specs.declared.kind.Kind.{Kind}
 use Rattle.reg_names.specs.declared.named.Named.{Named}
 use Rattle.manifest_doc.specs.Kinds.{object_in}
 use Rattle.manifest_doc.specs.Documents.{judged, config, layers, manifests, is_free}
@@ -39,11 +40,17 @@ occurring config layers = option_map_or (λ e. e.digest ∷ digests_in layers) c
 
 -- what the configuration and the layers name, each digest with whether it is free
 abbrev pub named_in : Option Descriptor → List Descriptor → List Named
-named_in config layers = map (λ digest. record { digest = digest; free = is_free digest config layers }) (in_order (occurring config layers))
+named_in config layers =
+    map (λ digest. record { digest = digest; free = is_free digest config layers }) (in_order (occurring config layers))
+
+-- the document that an object of this kind is
+abbrev pub document_by : Data → Kind → Doc
+document_by d kind =
+    record { kind = kind; named = named_in (config d) (layers d); children = in_order (digests_in (manifests d)) }
 
 -- the document that an object is, where it passes the tests
 abbrev pub document_of : Data → Option Doc
-document_of d = option_map (λ kind. record { kind = kind; named = named_in (config d) (layers d); children = in_order (digests_in (manifests d)) }) (result_ok (judged d))
+document_of d = option_map (document_by d) (result_ok (judged d))
 
 -- the document that bytes are
 unfoldable pub document_in : List ℕ → Option Doc

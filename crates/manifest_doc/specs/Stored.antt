@@ -17,4 +17,5 @@ pub record IsStoredManifest (digest bytes : List ℕ) (doc : Doc) : Type 0 where
 
 -- the document of the manifest that bytes are under a digest
 abbrev pub stored_in : List ℕ → List ℕ → Option Doc
-stored_in digest bytes = if nat_le (length bytes) manifest_limit && hashes_to digest bytes then document_in bytes else None
+stored_in digest bytes =
+    if nat_le (length bytes) manifest_limit && hashes_to digest bytes then document_in bytes else None

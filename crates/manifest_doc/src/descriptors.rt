@@ -2,7 +2,8 @@
 ghost use Rattle.std.specs.Prelude.{◌≡◌, true, map, IfOk, IfErr};
 ghost use Rattle.std.specs.List.{list_all};
 ghost use Rattle.serde_json.specs.View.{view};
-ghost use Rattle.manifest_doc.specs.Faults.{IsDue, bad_unless};
+ghost use Rattle.manifest_doc.specs.Faults.{IsDue};
+ghost use Rattle.manifest_doc.specs.InnerReading.{bad_unless};
 ghost use Rattle.manifest_doc.specs.Descriptors.{elements, elements_of, are_strings, has_fields, digest_in, described, is_descriptor, descriptors};
 
 use crate::DocFault;

@@ -3,7 +3,8 @@ ghost use Rattle.std.specs.Prelude.{◌≡◌, ◌≤◌, ◌+◌, codes, length
 ghost use Rattle.serde_json.specs.Find.{get};
 ghost use Rattle.serde_json.specs.View.{view};
 ghost use Rattle.manifest_doc.specs.Faults.{IsDue};
-ghost use Rattle.manifest_doc.specs.Documents.{element_limit, IsDocument, IsObjectDocument, judged, verdict, is_small, config_read};
+ghost use Rattle.manifest_doc.specs.Documents.{element_limit, IsDocument, IsObjectDocument, judged, verdict, is_small};
+ghost use Rattle.manifest_doc.specs.InnerReading.{config_read};
 
 use crate::descriptors::{Descriptor, elements, read_all};
 use crate::kinds::{kind_of_object, read_object};

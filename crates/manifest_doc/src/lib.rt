@@ -12,8 +12,6 @@ mod kinds;
 mod laws;
 mod lists;
 mod stored;
-#[cfg(test)]
-mod tests;
 
 pub use document::{Doc, read_doc};
 pub use fault::DocFault;

@@ -7,7 +7,7 @@ ghost use Rattle.std.specs.BTreeSet as set;
 ghost use Rattle.std.specs.List.{list_any};
 ghost use Rattle.std.specs.Option.{unwrap_or};
 ghost use Rattle.manifest_doc.specs.Documents.{AreNamed, AreChildren, is_of};
-ghost use Rattle.manifest_doc.specs.Noting.{with_note, freedom};
+ghost use Rattle.manifest_doc.specs.InnerNoting.{AreDigests, AreFreedoms, IsNoted};
 
 use crate::descriptors::Descriptor;
 use crate::{DigestList, NamedList};
@@ -37,7 +37,7 @@ fn freedoms_of(
     config: Option<Descriptor>,
     layers: Vec<Descriptor>,
 ) -> Result<BTreeMap<Digest, bool>, NoMemory>
-    ensures { IfOk result (λ m. (digest : List ℕ) → tree.get (slice_cmp nat_cmp) m digest ≡ freedom digest config layers.items) }
+    ensures { IfOk result (λ m. AreFreedoms config layers.items (tree.get (slice_cmp nat_cmp) m)) }
 {
     let mut freedoms = BTreeMap::new(alloc);
     if let Some(config) = config {
@@ -55,7 +55,8 @@ fn note(
     digest: Digest,
     has_urls: bool,
 ) -> Result<(), NoMemory>
-    ensures { OnOk result ((q : List ℕ) → tree.get (slice_cmp nat_cmp) freedoms.new q ≡ with_note (tree.get (slice_cmp nat_cmp) freedoms.old) digest has_urls q) }
+    ensures { let found = tree.get (slice_cmp nat_cmp) in
+        OnOk result (IsNoted digest has_urls (found freedoms.old) (found freedoms.new)) }
 {
     let free = stays_free(freedoms, &digest, has_urls);
     freedoms.insert(digest, free)?;
@@ -64,7 +65,8 @@ fn note(
 
 // Whether a digest is free by the occurrences so far and by one more, which has URLs or not.
 fn stays_free(freedoms: &BTreeMap<Digest, bool>, digest: &Digest, has_urls: bool) -> bool
-    ensures { result ≡ (unwrap_or (tree.get (slice_cmp nat_cmp) freedoms.now digest.now) true && has_urls) }
+    ensures { let found = tree.get (slice_cmp nat_cmp) freedoms.now digest.now in
+        result ≡ (unwrap_or found true && has_urls) }
 {
     freedoms.get(digest).copied().unwrap_or(true) && has_urls
 }
@@ -83,7 +85,7 @@ pub(crate) fn children_of(alloc: Global, manifests: Vec<Descriptor>) -> Result<D
 
 // The digests of descriptors.
 fn digests_of(alloc: Global, descriptors: Vec<Descriptor>) -> Result<BTreeSet<Digest>, NoMemory>
-    ensures { IfOk result (λ s. (digest : List ℕ) → set.contains (slice_cmp nat_cmp) s digest ≡ list_any (is_of digest) descriptors.items) }
+    ensures { IfOk result (λ s. AreDigests descriptors.items (set.contains (slice_cmp nat_cmp) s)) }
 {
     let mut digests = BTreeSet::new(alloc);
     for descriptor in descriptors {

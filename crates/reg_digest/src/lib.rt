@@ -6,8 +6,6 @@
 #![tactic(auto)]
 
 mod hashing;
-#[cfg(test)]
-mod tests;
 
 pub use hashing::{
     Hashing, bytes_have_one_digest, digest_of, hashes_are_digests, hashing_is_tested, is_digest_of,

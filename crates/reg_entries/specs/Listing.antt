@@ -17,12 +17,14 @@ is_behind (Some text) tag = is_lesser text tag
 abbrev pub IsNextTag : State → List ℕ → Option (List ℕ) → Option (List ℕ) → Type 0
 IsNextTag state name after None = (tag : List ℕ) → IsTrue (is_behind after tag) → state.tags name tag ≡ None
 IsNextTag state name after (Some next) =
-    IsTrue (is_behind after next) × IsSome (state.tags name next) × ((tag : List ℕ) → IsTrue (is_behind after tag) → IsTrue (is_lesser tag next) → state.tags name tag ≡ None)
+    IsTrue (is_behind after next) × IsSome (state.tags name next)
+    × ((tag : List ℕ) → IsTrue (is_behind after tag) → IsTrue (is_lesser tag next) → state.tags name tag ≡ None)
 
 -- each of these tags is the next one behind that before it, and the first of them behind `after`
 abbrev pub AreNextTags : State → List ℕ → Option (List ℕ) → List (List ℕ) → Type 0
 AreNextTags state name after [] = ⊤
-AreNextTags state name after (tag ∷ tags) = IsNextTag state name after (Some tag) × AreNextTags state name (Some tag) tags
+AreNextTags state name after (tag ∷ tags) =
+    IsNextTag state name after (Some tag) × AreNextTags state name (Some tag) tags
 
 -- the last of some tags, or `after` where there is none
 abbrev pub last_of : Option (List ℕ) → List (List ℕ) → Option (List ℕ)
@@ -34,6 +36,8 @@ last_of after (tag ∷ tags) = last_of (Some tag) tags
 abbrev pub IsListing : State → List ℕ → Option ℕ → Option (List ℕ) → List (List ℕ) → Option ℕ → Type 0
 IsListing state name (Some zero) last tags more = (tags ≡ []) × (more ≡ None)
 IsListing state name most last tags None =
-    AreNextTags state name last tags × IsNextTag state name (last_of last tags) None × IfSome most (λ n. length tags ≤ n)
+    AreNextTags state name last tags × IsNextTag state name (last_of last tags) None
+    × IfSome most (λ n. length tags ≤ n)
 IsListing state name most last tags (Some n) =
-    AreNextTags state name last tags × ((next : List ℕ) × IsNextTag state name (last_of last tags) (Some next)) × (most ≡ Some n) × (length tags ≡ n)
+    AreNextTags state name last tags × ((next : List ℕ) × IsNextTag state name (last_of last tags) (Some next))
+    × (most ≡ Some n) × (length tags ≡ n)

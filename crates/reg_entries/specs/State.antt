@@ -21,7 +21,8 @@ empty = record { manifests = λ name digest. None; links = λ name digest. None;
 
 -- a repository is known where it has a manifest or a link
 abbrev pub IsKnown : State → List ℕ → Type 0
-IsKnown state name = ((digest : List ℕ) × IsSome (state.manifests name digest)) ⊎ ((digest : List ℕ) × IsSome (state.links name digest))
+IsKnown state name =
+    ((digest : List ℕ) × IsSome (state.manifests name digest)) ⊎ ((digest : List ℕ) × IsSome (state.links name digest))
 
 -- whether a manifest, where there is one, lists the child
 abbrev pub lists_child : List ℕ → Option Document → Bool

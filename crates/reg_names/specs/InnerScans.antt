@@ -8,7 +8,11 @@ use Rattle.reg_names.specs.Names.{is_alphanumeric, begins, goes_on, underscored,
 -- behind a byte that is no letter or digit
 abbrev pub behind : Spot → ℕ → Option Spot
 behind Begin b = None
-behind Inside b = if b == 47 || b == 46 then Some Begin else if b == 95 then Some Underscore else if b == 45 then Some Dashes else None
+behind Inside b =
+    if b == 47 || b == 46 then Some Begin
+    else if b == 95 then Some Underscore
+    else if b == 45 then Some Dashes
+    else None
 behind Underscore b = if b == 95 then Some Begin else None
 behind Dashes b = if b == 45 then Some Dashes else None
 

@@ -17,4 +17,5 @@ kind_or k text next = if pointwise nat_eq text (media_type_of k) then Some k els
 
 -- the kind of a media type
 abbrev pub kind_named : List ℕ → Option Kind
-kind_named text = kind_or OciImage text (kind_or OciIndex text (kind_or DockerImage text (kind_or DockerList text None)))
+kind_named text =
+    kind_or OciImage text (kind_or OciIndex text (kind_or DockerImage text (kind_or DockerList text None)))

@@ -19,7 +19,11 @@ abbrev mutual
   -- behind a letter or digit
   pub goes_on : List ℕ → Bool
   goes_on [] = true
-  goes_on (b ∷ bs) = if is_alphanumeric b then goes_on bs else if b == 47 || b == 46 then begins bs else if b == 95 then underscored bs else b == 45 && dashed bs
+  goes_on (b ∷ bs) =
+      if is_alphanumeric b then goes_on bs
+      else if b == 47 || b == 46 then begins bs
+      else if b == 95 then underscored bs
+      else b == 45 && dashed bs
 
   -- behind one underscore
   pub underscored : List ℕ → Bool

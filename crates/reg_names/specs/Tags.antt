@@ -1,4 +1,5 @@
--- Tags: a letter, a digit or `_`, and up to 127 of these, `.` and `-` (OCI Distribution Specification 1.1, "Pulling manifests").
+-- Tags: a letter, a digit or `_`, and up to 127 of these, `.` and `-` (OCI Distribution Specification 1.1, "Pulling
+-- manifests").
 use Rattle.std.specs.Prelude.{ℕ, Bool, false, ◌&&◌, ◌||◌, ◌==◌, ◌-◌, nat_le, List, [], ◌∷◌, length, IsTrue}
 use Rattle.std.specs.List.{list_all}
 use Rattle.reg_names.specs.Limits.{tag_limit}

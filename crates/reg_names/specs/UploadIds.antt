@@ -28,6 +28,7 @@ upload_id_spelled text None = None
 unfoldable pub upload_id_named : List ℕ → Option (List ℕ)
 upload_id_named text = upload_id_spelled text (parsed_hyphenated text)
 
--- these bytes with version 4 in the high half of byte 6 and variant 10 in the high bits of byte 8 (RFC 9562, section 5.4)
+-- these bytes with version 4 in the high half of byte 6 and variant 10 in the high bits of byte 8 (RFC 9562, 5.4)
 abbrev pub version_4 : List ℕ → List ℕ
-version_4 bytes = slice_set (slice_set bytes 6 (4 * 16 + slice_index bytes 6 % 16)) 8 (2 * 64 + slice_index bytes 8 % 64)
+version_4 bytes =
+    slice_set (slice_set bytes 6 (4 * 16 + slice_index bytes 6 % 16)) 8 (2 * 64 + slice_index bytes 8 % 64)

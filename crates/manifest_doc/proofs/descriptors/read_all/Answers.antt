@@ -1,5 +1,5 @@
 use Rattle.std.proofs.Common.{sym, ◌∙◌, ap}
-use Rattle.manifest_doc.specs.Faults.{bad_unless}
+use Rattle.manifest_doc.specs.InnerReading.{bad_unless}
 use Rattle.manifest_doc.proofs.Elements.{read_more, read_bad}
 use Rattle.manifest_doc.proofs.descriptors.read_all.Goals as goal
 
