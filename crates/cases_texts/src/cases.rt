@@ -1,0 +1,43 @@
+//! The kinds of cases, each in a module of its own.
+use crate::NO_CASE;
+use reg_names::NoMemory;
+use std::alloc::Global;
+
+mod descriptor;
+mod digest;
+mod document;
+mod kind;
+mod name;
+mod reference;
+mod sha256;
+mod stored;
+mod tag;
+mod upload;
+mod version4;
+
+/// The answer to a case of a kind.
+pub fn answer(alloc: Global, kind: &str, text: &[u8]) -> Result<String, NoMemory> {
+    match kind {
+        "descriptor" => descriptor::answer(alloc, text),
+        "digest" => digest::answer(alloc, text),
+        "document" => document::answer(alloc, text),
+        "kind" => kind::answer(alloc, text),
+        "name" => name::answer(alloc, text),
+        "reference" => reference::answer(alloc, text),
+        "sha256" => sha256::answer(alloc, text),
+        "stored" => stored::answer(alloc, text),
+        "tag" => tag::answer(alloc, text),
+        "upload" => upload::answer(alloc, text),
+        "version4" => version4::answer(alloc, text),
+        _ => told(alloc, NO_CASE),
+    }
+}
+
+// The answer to what is asked for by yes or no.
+fn yes_or_no(alloc: Global, is: bool) -> Result<String, NoMemory> {
+    told(alloc, if is { "yes" } else { "no" })
+}
+
+fn told(alloc: Global, answer: &str) -> Result<String, NoMemory> {
+    Ok(String::from_str(alloc, answer)?)
+}
