@@ -1,4 +1,4 @@
-//! Manifest documents: which bytes are one, and of which kind.
+//! Manifest documents: which bytes are one, of which kind, and which are the manifest that is stored under a digest.
 //! A document is judged by its JSON value, member by member, and the first test that fails names the fault.
 //! Everything that stores, checks or walks a manifest stands on this crate.
 //! The rules are those of the OCI Image Specification 1.1, "Image Manifest Specification" and "Image Index

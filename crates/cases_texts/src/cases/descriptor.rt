@@ -10,8 +10,9 @@ use std::str;
 const AS_CONFIG: &str = r#"{"schemaVersion":2,"layers":[],"config":"#;
 
 // An image whose configuration is `{}`, up to its first layer.
-const AS_LAYER: &str =
-    r#"{"schemaVersion":2,"config":{"mediaType":"a","digest":"sha256:44136fa355b3678a1146ad16f7e8649e94fb4fc21fe77e8310c060f61caaff8a","size":2},"layers":["#;
+const AS_LAYER: &str = "{\"schemaVersion\":2,\"config\":{\"mediaType\":\"a\",\"size\":2,\
+    \"digest\":\"sha256:44136fa355b3678a1146ad16f7e8649e94fb4fc21fe77e8310c060f61caaff8a\"},\
+    \"layers\":[";
 
 const AS_MANIFEST: &str = r#"{"schemaVersion":2,"manifests":["#;
 
