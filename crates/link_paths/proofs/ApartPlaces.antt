@@ -10,7 +10,7 @@ use Rattle.depot_api.specs.Paths.{parts_of}
 use Rattle.link_paths.specs.declared.place.Place.{Place}
 use Rattle.link_paths.specs.declared.place.Place.TheVariants.{BlobData, Revision, TagCurrent, TagIndex, Layer, UploadData, UploadStarted}
 use Rattle.link_paths.specs.Places.{digits, place_path, IsPlace}
-use Rattle.link_paths.specs.Folders.{repository_of, inside, front_of, blobs_front, place_parts}
+use Rattle.link_paths.specs.Folders.{repository_of, inside, folder_of, blobs_folder, place_parts}
 use Rattle.link_paths.specs.ReadsAt.{ReadsAt}
 use Rattle.link_paths.proofs.Parts.{same_text}
 use Rattle.link_paths.proofs.NameParts.{name_is_open}
@@ -62,13 +62,13 @@ place_back (UploadStarted n u) h = ap (UploadStarted n) (id_is u h.1)
 
 -- ---- which the path tells
 
-blob_at : (p : Place) (of : Option (List ℕ)) (rest : List (List ℕ)) → repository_of p ≡ of → front_of of ++ inside p ≡ blobs_front ++ rest → (repository_of p ≡ None) × (inside p ≡ rest)
+blob_at : (p : Place) (of : Option (List ℕ)) (rest : List (List ℕ)) → repository_of p ≡ of → folder_of of ++ inside p ≡ blobs_folder ++ rest → (repository_of p ≡ None) × (inside p ≡ rest)
 blob_at p None rest is e = (is, ap (λ parts. drop 4 parts) e)
 blob_at p (Some name) rest is e =
     let letters : ◌≡◌ {A = ℕ} 114 98 = ap (λ parts. slice_index (get_or parts 3 []) 0) e in
     absurd (omega arith)
 
-told : (p q : Place) (of : Option (List ℕ)) → IsPlace p → IsPlace q → repository_of q ≡ of → place_parts p ≡ front_of of ++ inside q → (repository_of p ≡ of) × (inside p ≡ inside q)
+told : (p q : Place) (of : Option (List ℕ)) → IsPlace p → IsPlace q → repository_of q ≡ of → place_parts p ≡ folder_of of ++ inside q → (repository_of p ≡ of) × (inside p ≡ inside q)
 told p q None hp hq is e = blob_at p (repository_of p) (inside q) refl e
 told p q (Some name) hp hq is e =
     let f = found p (parts_of name) (inside q) hp (name_is_open name (repository_name q name hq is)) (inside_is_below q name is) e in

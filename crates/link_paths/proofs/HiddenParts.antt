@@ -8,7 +8,7 @@ use Rattle.depot_api.specs.Paths.{parts_of}
 use Rattle.link_paths.specs.declared.place.Place.{Place}
 use Rattle.link_paths.specs.declared.place.Place.TheVariants.{BlobData, Revision, TagCurrent, TagIndex, Layer, UploadData, UploadStarted}
 use Rattle.link_paths.specs.Places.{IsPlace}
-use Rattle.link_paths.specs.Folders.{is_hidden, IsBelow, repository_of, inside, place_parts, front_of}
+use Rattle.link_paths.specs.Folders.{is_hidden, IsBelow, repository_of, inside, place_parts, folder_of}
 use Rattle.link_paths.proofs.NameParts.{name_is_open}
 
 or_false : (x y : Bool) → x || y ≡ false → (x ≡ false) × (y ≡ false)
@@ -58,7 +58,7 @@ pub record IsFound (place : Place) (names rest : List (List ℕ)) : Type 0 where
   pub same_names : parts_of name ≡ names
   pub same_rest : inside place ≡ rest
 
-found_at : (place : Place) (of : Option (List ℕ)) (names rest : List (List ℕ)) → IsPlace place → repository_of place ≡ of → list_any is_hidden names ≡ false → IsBelow rest → front_of of ++ inside place ≡ codes "docker" ∷ codes "registry" ∷ codes "v2" ∷ codes "repositories" ∷ (names ++ rest) → IsFound place names rest
+found_at : (place : Place) (of : Option (List ℕ)) (names rest : List (List ℕ)) → IsPlace place → repository_of place ≡ of → list_any is_hidden names ≡ false → IsBelow rest → folder_of of ++ inside place ≡ codes "docker" ∷ codes "registry" ∷ codes "v2" ∷ codes "repositories" ∷ (names ++ rest) → IsFound place names rest
 found_at place None names rest h is open_names below e =
     let letters : ◌≡◌ {A = ℕ} 98 114 = ap (λ parts. slice_index (get_or parts 3 []) 0) e in
     absurd (omega arith)

@@ -8,5 +8,6 @@ pub mod HiddenParts
 pub mod PlaceParts
 pub mod ReadPlaces
 pub mod ApartPlaces
-pub mod FrontPlaces
+pub mod FolderPlaces
+pub mod LinksBelow
 pub mod PathOrder

@@ -11,10 +11,10 @@ use Rattle.reg_names.specs.Tags.{IsTag}
 use Rattle.reg_names.specs.Digests.{AreBytes, IsDigest}
 use Rattle.depot_api.specs.Paths.{is_below}
 use Rattle.link_paths.specs.Places.{digits, revision_path, tag_path, layer_path}
-use Rattle.link_paths.specs.Folders.{tags_front, revisions_front, layers_front}
-use Rattle.link_paths.proofs.FrontPlaces.{tag_begins, revision_begins, layer_begins}
+use Rattle.link_paths.specs.Folders.{tags_folder, revisions_folder, layers_folder, digest_link}
+use Rattle.link_paths.proofs.FolderPlaces.{tag_begins, revision_begins, layer_begins}
 
--- ---- below one front
+-- ---- below one folder
 
 byte_itself : (b : ℕ) → nat_cmp b b ≡ Equal
 byte_itself b = grind (arith, nat_tests)
@@ -23,9 +23,9 @@ text_itself : (t : List ℕ) → slice_cmp nat_cmp t t ≡ Equal
 text_itself [] = refl
 text_itself (b ∷ t) = rw (byte_itself b) (text_itself t)
 
-under_front : (front xs ys : List (List ℕ)) → slice_cmp (slice_cmp nat_cmp) (front ++ xs) (front ++ ys) ≡ slice_cmp (slice_cmp nat_cmp) xs ys
-under_front [] xs ys = refl
-under_front (part ∷ front) xs ys = rw (text_itself part) (under_front front xs ys)
+under_folder : (folder xs ys : List (List ℕ)) → slice_cmp (slice_cmp nat_cmp) (folder ++ xs) (folder ++ ys) ≡ slice_cmp (slice_cmp nat_cmp) xs ys
+under_folder [] xs ys = refl
+under_folder (part ∷ folder) xs ys = rw (text_itself part) (under_folder folder xs ys)
 
 then_Less : (first second : Ordering) → is_lt first ≡ true → is_lt (ordering_then first second) ≡ true
 then_Less Less second h = refl
@@ -42,16 +42,16 @@ then_assoc Less b c = refl
 then_assoc Equal b c = refl
 then_assoc Greater b c = refl
 
-pub in_order : (front : List (List ℕ)) (t u : List ℕ) (x y : List (List ℕ)) → IsTrue (is_lt (slice_cmp nat_cmp t u)) → IsTrue (is_below (front ++ t ∷ x) (front ++ u ∷ y))
-in_order front t u x y h = ap is_lt (under_front front (t ∷ x) (u ∷ y)) ∙ then_Less (slice_cmp nat_cmp t u) (slice_cmp (slice_cmp nat_cmp) x y) h
+pub in_order : (folder : List (List ℕ)) (t u : List ℕ) (x y : List (List ℕ)) → IsTrue (is_lt (slice_cmp nat_cmp t u)) → IsTrue (is_below (folder ++ t ∷ x) (folder ++ u ∷ y))
+in_order folder t u x y h = ap is_lt (under_folder folder (t ∷ x) (u ∷ y)) ∙ then_Less (slice_cmp nat_cmp t u) (slice_cmp (slice_cmp nat_cmp) x y) h
 
 -- two files of one name below two folders
-same_file : (front : List (List ℕ)) (t u : List ℕ) (x : List (List ℕ)) → slice_cmp (slice_cmp nat_cmp) x x ≡ Equal → is_below (front ++ t ∷ x) (front ++ u ∷ x) ≡ is_lt (slice_cmp nat_cmp t u)
-same_file front t u x h =
-    ap is_lt (under_front front (t ∷ x) (u ∷ x) ∙ ap (ordering_then (slice_cmp nat_cmp t u)) h ∙ then_Equal (slice_cmp nat_cmp t u))
+same_file : (folder : List (List ℕ)) (t u : List ℕ) (x : List (List ℕ)) → slice_cmp (slice_cmp nat_cmp) x x ≡ Equal → is_below (folder ++ t ∷ x) (folder ++ u ∷ x) ≡ is_lt (slice_cmp nat_cmp t u)
+same_file folder t u x h =
+    ap is_lt (under_folder folder (t ∷ x) (u ∷ x) ∙ ap (ordering_then (slice_cmp nat_cmp t u)) h ∙ then_Equal (slice_cmp nat_cmp t u))
 
 pub tags_in_order : (name t u : List ℕ) → IsName name → IsTag t → IsTag u → is_below (tag_path name t) (tag_path name u) ≡ is_lt (slice_cmp nat_cmp t u)
-tags_in_order name t u n ht hu = rw (tag_begins name t n ht, tag_begins name u n hu) (same_file (tags_front name) t u (codes "current" ∷ codes "link" ∷ []) refl)
+tags_in_order name t u n ht hu = rw (tag_begins name t n ht, tag_begins name u n hu) (same_file (tags_folder name) t u (codes "current" ∷ codes "link" ∷ []) refl)
 
 -- ---- digits are in the order of their bytes
 
@@ -79,8 +79,12 @@ encoded_order (x ∷ xs) (y ∷ ys) h k =
 digits_order : (d e : List ℕ) → IsDigest d → IsDigest e → slice_cmp nat_cmp (digits d) (digits e) ≡ slice_cmp nat_cmp d e
 digits_order d e h k = rw (h.is, k.is) (encoded_order h.raw k.raw h.bytes k.bytes)
 
+links_in_order : (folder : List (List ℕ)) (d e : List ℕ) → IsDigest d → IsDigest e → is_below (folder ++ digest_link d) (folder ++ digest_link e) ≡ is_lt (slice_cmp nat_cmp d e)
+links_in_order folder d e h k =
+    ap is_lt (under_folder folder (digest_link d) (digest_link e)) ∙ same_file [] (digits d) (digits e) (codes "link" ∷ []) refl ∙ ap is_lt (digits_order d e h k)
+
 pub revisions_in_order : (name d e : List ℕ) → IsName name → IsDigest d → IsDigest e → is_below (revision_path name d) (revision_path name e) ≡ is_lt (slice_cmp nat_cmp d e)
-revisions_in_order name d e n h k = rw (revision_begins name d n h, revision_begins name e n k) (same_file (revisions_front name) (digits d) (digits e) (codes "link" ∷ []) refl ∙ ap is_lt (digits_order d e h k))
+revisions_in_order name d e n h k = rw (revision_begins name d n h, revision_begins name e n k) (links_in_order (revisions_folder name) d e h k)
 
 pub layers_in_order : (name d e : List ℕ) → IsName name → IsDigest d → IsDigest e → is_below (layer_path name d) (layer_path name e) ≡ is_lt (slice_cmp nat_cmp d e)
-layers_in_order name d e n h k = rw (layer_begins name d n h, layer_begins name e n k) (same_file (layers_front name) (digits d) (digits e) (codes "link" ∷ []) refl ∙ ap is_lt (digits_order d e h k))
+layers_in_order name d e n h k = rw (layer_begins name d n h, layer_begins name e n k) (links_in_order (layers_folder name) d e h k)

@@ -12,7 +12,7 @@ use Rattle.depot_api.specs.Paths.{parts_of, is_part, IsPath}
 use Rattle.link_paths.specs.declared.place.Place.{Place}
 use Rattle.link_paths.specs.declared.place.Place.TheVariants.{BlobData, Revision, TagCurrent, TagIndex, Layer, UploadData, UploadStarted}
 use Rattle.link_paths.specs.Places.{digits, data_text, revision_text, tag_text, tag_index_text, layer_text, upload_data_text, upload_started_text, data_path, revision_path, tag_path, tag_index_path, layer_path, upload_data_path, upload_started_path, place_path, IsPlace}
-use Rattle.link_paths.specs.Folders.{digest_link, place_parts, repository_front, tags_front, revisions_front, layers_front}
+use Rattle.link_paths.specs.Folders.{digest_link, place_parts, repository_folder, tags_folder, revisions_folder, layers_folder}
 use Rattle.link_paths.proofs.Parts.{parts_of-append, parts_of-one}
 use Rattle.link_paths.proofs.ArePaths.{IsOnePart-from_part, IsPath-parts_of}
 use Rattle.link_paths.proofs.NameParts.{name_parts, name_length}
@@ -26,7 +26,7 @@ use Rattle.link_paths.proofs.IdsInPaths.{IsPart-id, length-id}
 abbrev below : List ℕ → List ℕ → List ℕ
 below name rest = codes "docker/registry/v2/repositories/" ++ (name ++ 47 ∷ rest)
 
-below_parts : (name rest : List ℕ) (parts : List (List ℕ)) → parts_of rest ≡ parts → parts_of (below name rest) ≡ repository_front name ++ parts
+below_parts : (name rest : List ℕ) (parts : List (List ℕ)) → parts_of rest ≡ parts → parts_of (below name rest) ≡ repository_folder name ++ parts
 below_parts name rest parts e = ap (λ ps. codes "docker" ∷ codes "registry" ∷ codes "v2" ∷ codes "repositories" ∷ ps) (parts_of-append name rest ∙ ap (λ ps. parts_of name ++ ps) e)
 
 digest_parts : (digest rest : List ℕ) → IsDigest digest → parts_of (digits digest ++ 47 ∷ rest) ≡ digits digest ∷ parts_of rest
@@ -92,7 +92,7 @@ parts_of_place (UploadStarted n u) h = upload_started_parts n u h.1
 IsPath-from_parts : (text : List ℕ) (parts : List (List ℕ)) → parts_of text ≡ parts → list_all is_part parts ≡ true → length text ≤ 4096 → IsPath (parts_of text)
 IsPath-from_parts text parts e all short = IsPath-parts_of text (ap (list_all is_part) e ∙ all) short
 
-all_below : (name : List ℕ) (parts : List (List ℕ)) → IsName name → list_all is_part parts ≡ true → list_all is_part (repository_front name ++ parts) ≡ true
+all_below : (name : List ℕ) (parts : List (List ℕ)) → IsName name → list_all is_part parts ≡ true → list_all is_part (repository_folder name ++ parts) ≡ true
 all_below name parts h all = list_all-append is_part (parts_of name) parts ∙ and_from _ _ (name_parts name h) all
 
 length-below : (name rest : List ℕ) → IsName name → length rest ≤ 3000 → length (below name rest) ≤ 4096
@@ -154,23 +154,23 @@ IsPath-place_path (UploadStarted n u) h = IsPath-upload_started_path n u h.0 h.1
 -- ---- folders of a repository
 
 -- the text of a path with these parts
-abbrev IsFront : List ℕ → List (List ℕ) → Type 0
-IsFront text parts = (parts_of text ≡ parts) × IsPath (parts_of text)
+abbrev IsFolder : List ℕ → List (List ℕ) → Type 0
+IsFolder text parts = (parts_of text ≡ parts) × IsPath (parts_of text)
 
-tags_front_parts : (name : List ℕ) → parts_of (below name (codes "_manifests/tags")) ≡ tags_front name
-tags_front_parts name = below_parts name (codes "_manifests/tags") _ refl
+tags_folder_parts : (name : List ℕ) → parts_of (below name (codes "_manifests/tags")) ≡ tags_folder name
+tags_folder_parts name = below_parts name (codes "_manifests/tags") _ refl
 
-pub IsFront-tags_front : (name : List ℕ) → IsName name → IsFront (below name (codes "_manifests/tags")) (tags_front name)
-IsFront-tags_front name n = (tags_front_parts name, IsPath-from_parts (below name (codes "_manifests/tags")) _ (tags_front_parts name) (all_below name _ n refl) (length-below name (codes "_manifests/tags") n (omega arith)))
+pub IsFolder-tags_folder : (name : List ℕ) → IsName name → IsFolder (below name (codes "_manifests/tags")) (tags_folder name)
+IsFolder-tags_folder name n = (tags_folder_parts name, IsPath-from_parts (below name (codes "_manifests/tags")) _ (tags_folder_parts name) (all_below name _ n refl) (length-below name (codes "_manifests/tags") n (omega arith)))
 
-revisions_front_parts : (name : List ℕ) → parts_of (below name (codes "_manifests/revisions/sha256")) ≡ revisions_front name
-revisions_front_parts name = below_parts name (codes "_manifests/revisions/sha256") _ refl
+revisions_folder_parts : (name : List ℕ) → parts_of (below name (codes "_manifests/revisions")) ≡ revisions_folder name
+revisions_folder_parts name = below_parts name (codes "_manifests/revisions") _ refl
 
-pub IsFront-revisions_front : (name : List ℕ) → IsName name → IsFront (below name (codes "_manifests/revisions/sha256")) (revisions_front name)
-IsFront-revisions_front name n = (revisions_front_parts name, IsPath-from_parts (below name (codes "_manifests/revisions/sha256")) _ (revisions_front_parts name) (all_below name _ n refl) (length-below name (codes "_manifests/revisions/sha256") n (omega arith)))
+pub IsFolder-revisions_folder : (name : List ℕ) → IsName name → IsFolder (below name (codes "_manifests/revisions")) (revisions_folder name)
+IsFolder-revisions_folder name n = (revisions_folder_parts name, IsPath-from_parts (below name (codes "_manifests/revisions")) _ (revisions_folder_parts name) (all_below name _ n refl) (length-below name (codes "_manifests/revisions") n (omega arith)))
 
-layers_front_parts : (name : List ℕ) → parts_of (below name (codes "_layers/sha256")) ≡ layers_front name
-layers_front_parts name = below_parts name (codes "_layers/sha256") _ refl
+layers_folder_parts : (name : List ℕ) → parts_of (below name (codes "_layers")) ≡ layers_folder name
+layers_folder_parts name = below_parts name (codes "_layers") _ refl
 
-pub IsFront-layers_front : (name : List ℕ) → IsName name → IsFront (below name (codes "_layers/sha256")) (layers_front name)
-IsFront-layers_front name n = (layers_front_parts name, IsPath-from_parts (below name (codes "_layers/sha256")) _ (layers_front_parts name) (all_below name _ n refl) (length-below name (codes "_layers/sha256") n (omega arith)))
+pub IsFolder-layers_folder : (name : List ℕ) → IsName name → IsFolder (below name (codes "_layers")) (layers_folder name)
+IsFolder-layers_folder name n = (layers_folder_parts name, IsPath-from_parts (below name (codes "_layers")) _ (layers_folder_parts name) (all_below name _ n refl) (length-below name (codes "_layers") n (omega arith)))

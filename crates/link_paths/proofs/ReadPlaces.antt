@@ -9,7 +9,7 @@ use Rattle.depot_api.specs.Paths.{parts_of, path_text, is_part, IsPath}
 use Rattle.depot_api.proofs.PathLaws.{parts_of-path_text}
 use Rattle.link_paths.specs.declared.place.Place.{Place}
 use Rattle.link_paths.specs.Places.{place_path, IsPlace}
-use Rattle.link_paths.specs.Folders.{is_hidden, IsCutAtHidden, IsPlaceOf, inside, place_parts, front_of}
+use Rattle.link_paths.specs.Folders.{is_hidden, IsCutAtHidden, IsPlaceOf, inside, place_parts, folder_of}
 use Rattle.link_paths.specs.ReadsAt.{ReadsAt}
 use Rattle.link_paths.proofs.Parts.{path_text-parts_of, same_text}
 use Rattle.link_paths.proofs.NameParts.{name_length}
@@ -83,7 +83,7 @@ in_repositories parts = codes "docker" ∷ codes "registry" ∷ codes "v2" ∷ c
 
 pub inside_read : {E : Type 0} (parts names rest : List (List ℕ)) (name : List ℕ) (r : Result (Option Place) E) → IsCutAtHidden parts names rest → parts_of name ≡ names → IfOk r (ReadsAt (IsPlaceOf name) inside rest) → IfOk r (ReadsAt IsPlace place_parts (in_repositories parts))
 inside_read parts names rest name (Ok (Some place)) cut is read =
-    let front : place_parts place ≡ in_repositories (parts_of name ++ inside place) = ap (λ of. front_of of ++ inside place) read.0.1 in
+    let front : place_parts place ≡ in_repositories (parts_of name ++ inside place) = ap (λ of. folder_of of ++ inside place) read.0.1 in
     let whole : in_repositories (parts_of name ++ inside place) ≡ in_repositories parts = rw (is, read.1, cut.is) refl in
     (read.0.0, front ∙ whole)
 inside_read parts names rest name (Ok None) cut is read = λ place h e.

@@ -5,33 +5,45 @@ use Rattle.reg_names.specs.UploadIds.{upload_id_text}
 use Rattle.depot_api.specs.Paths.{parts_of}
 use Rattle.link_paths.specs.declared.place.Place.{Place}
 use Rattle.link_paths.specs.declared.place.Place.TheVariants.{BlobData, Revision, TagCurrent, TagIndex, Layer, UploadData, UploadStarted}
+use Rattle.reg_names.specs.Names.{IsName}
 use Rattle.link_paths.specs.Places.{digits, IsPlace}
+use Rattle.link_paths.specs.ReadsAt.{ReadsAt}
 
--- ---- fronts
+-- ---- folders
 
 -- the folder of all blobs
-abbrev pub blobs_front : List (List ℕ)
-blobs_front = codes "docker" ∷ codes "registry" ∷ codes "v2" ∷ codes "blobs" ∷ []
+abbrev pub blobs_folder : List (List ℕ)
+blobs_folder = codes "docker" ∷ codes "registry" ∷ codes "v2" ∷ codes "blobs" ∷ []
 
 -- the folder of a repository
-abbrev pub repository_front : List ℕ → List (List ℕ)
-repository_front name = codes "docker" ∷ codes "registry" ∷ codes "v2" ∷ codes "repositories" ∷ parts_of name
+abbrev pub repository_folder : List ℕ → List (List ℕ)
+repository_folder name = codes "docker" ∷ codes "registry" ∷ codes "v2" ∷ codes "repositories" ∷ parts_of name
 
 -- those of its tags, of its links to manifests and of its links to blobs
-abbrev pub tags_front : List ℕ → List (List ℕ)
-tags_front name = repository_front name ++ (codes "_manifests" ∷ codes "tags" ∷ [])
+abbrev pub tags_folder : List ℕ → List (List ℕ)
+tags_folder name = repository_folder name ++ (codes "_manifests" ∷ codes "tags" ∷ [])
 
-abbrev pub revisions_front : List ℕ → List (List ℕ)
-revisions_front name = repository_front name ++ (codes "_manifests" ∷ codes "revisions" ∷ codes "sha256" ∷ [])
+abbrev pub revisions_folder : List ℕ → List (List ℕ)
+revisions_folder name = repository_folder name ++ (codes "_manifests" ∷ codes "revisions" ∷ [])
 
-abbrev pub layers_front : List ℕ → List (List ℕ)
-layers_front name = repository_front name ++ (codes "_layers" ∷ codes "sha256" ∷ [])
+abbrev pub layers_folder : List ℕ → List (List ℕ)
+layers_folder name = repository_folder name ++ (codes "_layers" ∷ [])
+
+-- What the link at a path is to, for each repository with this folder; nothing only where no such link lies there.
+abbrev pub ReadsBelow : (folder_of : List ℕ → List (List ℕ)) (IsIn : List ℕ → Type 0)
+    (path_of : List ℕ → List ℕ → List (List ℕ)) (folder path : List (List ℕ)) → Option (List ℕ) → Type 0
+ReadsBelow folder_of IsIn path_of folder path found =
+    (name : List ℕ) → IsName name → folder ≡ folder_of name → ReadsAt IsIn (path_of name) path found
 
 -- ---- what lies below
 
 -- a link that is named by its digest
 abbrev pub digest_link : List ℕ → List (List ℕ)
 digest_link digest = codes "sha256" ∷ digits digest ∷ codes "link" ∷ []
+
+-- the link of a tag to its manifest
+abbrev pub current_link : List ℕ → List (List ℕ)
+current_link tag = tag ∷ codes "current" ∷ codes "link" ∷ []
 
 -- the file of a blob's bytes
 abbrev pub blob_file : List ℕ → List (List ℕ)
@@ -58,13 +70,13 @@ inside (UploadData name id) = codes "_uploads" ∷ upload_id_text id ∷ codes "
 inside (UploadStarted name id) = codes "_uploads" ∷ upload_id_text id ∷ codes "startedat" ∷ []
 
 -- the folder that a place's path begins with
-abbrev pub front_of : Option (List ℕ) → List (List ℕ)
-front_of None = blobs_front
-front_of (Some name) = repository_front name
+abbrev pub folder_of : Option (List ℕ) → List (List ℕ)
+folder_of None = blobs_folder
+folder_of (Some name) = repository_folder name
 
 -- the parts of a place's path
 abbrev pub place_parts : Place → List (List ℕ)
-place_parts place = front_of (repository_of place) ++ inside place
+place_parts place = folder_of (repository_of place) ++ inside place
 
 -- a place of this repository
 abbrev pub IsPlaceOf : List ℕ → Place → Type 0

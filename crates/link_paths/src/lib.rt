@@ -5,6 +5,7 @@
 //! are those of the OCI Distribution Specification 1.1.
 #![tactic(auto)]
 
+mod below;
 mod laws;
 mod paths;
 mod place;
@@ -12,13 +13,14 @@ mod reading;
 #[cfg(test)]
 mod tests;
 
+pub use below::{layer_below, revision_below, tag_below};
 pub use laws::{
     folders_are_apart, places_are_apart, places_are_in_order, places_are_paths,
     places_begin_with_folders, places_by_parts, places_read_back,
 };
 pub use paths::{
-    data_path, layer_path, layers_front, path_of, revision_path, revisions_front, tag_index_path,
-    tag_path, tags_front, upload_data_path, upload_started_path,
+    data_path, layer_path, layers_folder, path_of, revision_path, revisions_folder, tag_index_path,
+    tag_path, tags_folder, upload_data_path, upload_started_path,
 };
 pub use place::Place;
 pub use reading::read_path;

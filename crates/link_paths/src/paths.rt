@@ -7,7 +7,7 @@ ghost use Rattle.reg_names.specs.UploadIds.{IsUploadId, upload_id_text};
 ghost use Rattle.depot_api.specs.Paths.{IsPath, parts_of};
 ghost use Rattle.link_paths.specs.Places.{digits, data_path, layer_path, revision_path, tag_path, tag_index_path, upload_data_path, upload_started_path, place_path, IsPlace};
 ghost use Rattle.link_paths.specs.declared.place.Place.TheVariants as places;
-ghost use Rattle.link_paths.specs.Folders.{tags_front, revisions_front, layers_front};
+ghost use Rattle.link_paths.specs.Folders.{tags_folder, revisions_folder, layers_folder};
 
 use crate::Place;
 use depot_api::Path;
@@ -150,8 +150,8 @@ pub fn upload_started_path(alloc: Global, name: &Name, id: &UploadId) -> Result<
 }
 
 /// The folder in which a repository keeps the links of its tags: `docker/registry/v2/repositories/a/b/_manifests/tags`.
-pub fn tags_front(alloc: Global, name: &Name) -> Result<Path, NoMemory>
-    ensures path { IfOk result (λ p. p ≡ tags_front name.now) }
+pub fn tags_folder(alloc: Global, name: &Name) -> Result<Path, NoMemory>
+    ensures path { IfOk result (λ p. p ≡ tags_folder name.now) }
     ensures name { IsName name.now }
 {
     let name = name.as_str();
@@ -162,27 +162,27 @@ pub fn tags_front(alloc: Global, name: &Name) -> Result<Path, NoMemory>
 }
 
 /// The folder in which a repository keeps its links to manifests:
-/// `docker/registry/v2/repositories/a/b/_manifests/revisions/sha256`.
-pub fn revisions_front(alloc: Global, name: &Name) -> Result<Path, NoMemory>
-    ensures path { IfOk result (λ p. p ≡ revisions_front name.now) }
+/// `docker/registry/v2/repositories/a/b/_manifests/revisions`.
+pub fn revisions_folder(alloc: Global, name: &Name) -> Result<Path, NoMemory>
+    ensures path { IfOk result (λ p. p ≡ revisions_folder name.now) }
     ensures name { IsName name.now }
 {
     let name = name.as_str();
     path(
         alloc,
-        &format!(in alloc; "docker/registry/v2/repositories/{name}/_manifests/revisions/sha256")?,
+        &format!(in alloc; "docker/registry/v2/repositories/{name}/_manifests/revisions")?,
     )
 }
 
-/// The folder in which a repository keeps its links to blobs: `docker/registry/v2/repositories/a/b/_layers/sha256`.
-pub fn layers_front(alloc: Global, name: &Name) -> Result<Path, NoMemory>
-    ensures path { IfOk result (λ p. p ≡ layers_front name.now) }
+/// The folder in which a repository keeps its links to blobs: `docker/registry/v2/repositories/a/b/_layers`.
+pub fn layers_folder(alloc: Global, name: &Name) -> Result<Path, NoMemory>
+    ensures path { IfOk result (λ p. p ≡ layers_folder name.now) }
     ensures name { IsName name.now }
 {
     let name = name.as_str();
     path(
         alloc,
-        &format!(in alloc; "docker/registry/v2/repositories/{name}/_layers/sha256")?,
+        &format!(in alloc; "docker/registry/v2/repositories/{name}/_layers")?,
     )
 }
 

@@ -15,7 +15,7 @@ use reg_names::{Digest, Name, NoMemory, Tag, UploadId};
 use std::alloc::Global;
 
 // Whether a part is this text.
-fn is(part: &Part, text: &str) -> bool
+pub(crate) fn is(part: &Part, text: &str) -> bool
     ensures { IsTrue result ↔ (part.now ≡ text.now) }
 {
     part.as_str() == text
@@ -30,7 +30,7 @@ fn read_digits(alloc: Global, part: &Part) -> Result<Option<Digest>, NoMemory>
 }
 
 // The digest of a link that is named by it.
-fn read_digest_link(alloc: Global, parts: &[Part]) -> Result<Option<Digest>, NoMemory>
+pub(crate) fn read_digest_link(alloc: Global, parts: &[Part]) -> Result<Option<Digest>, NoMemory>
     ensures { IfOk result (ReadsAt IsDigest digest_link parts.now) }
 {
     match parts {

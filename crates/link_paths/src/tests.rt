@@ -1,5 +1,5 @@
 //! The paths of a small registry, written out by hand, and paths near them that are no places.
-use crate::{Place, layers_front, path_of, read_path, revisions_front, tags_front};
+use crate::{Place, layers_folder, path_of, read_path, revisions_folder, tags_folder};
 use depot_api::Path;
 use reg_names::{Digest, Name, Tag, UploadId};
 use std::alloc::Global;
@@ -258,20 +258,20 @@ fn tags_that_are_named_as_folders_are(rt: HostRuntime) -> Result<(), Fail> {
 fn folders_of_repositories(rt: HostRuntime) -> Result<(), Fail> {
     let alloc = rt.alloc();
     let repository = name(alloc, "a/b")?;
-    let tags = tags_front(alloc, &repository)?.text(alloc)?;
+    let tags = tags_folder(alloc, &repository)?.text(alloc)?;
     assert_eq!(rt;
         tags.as_str(),
         "docker/registry/v2/repositories/a/b/_manifests/tags"
     );
-    let revisions = revisions_front(alloc, &repository)?.text(alloc)?;
+    let revisions = revisions_folder(alloc, &repository)?.text(alloc)?;
     assert_eq!(rt;
         revisions.as_str(),
-        "docker/registry/v2/repositories/a/b/_manifests/revisions/sha256"
+        "docker/registry/v2/repositories/a/b/_manifests/revisions"
     );
-    let layers = layers_front(alloc, &repository)?.text(alloc)?;
+    let layers = layers_folder(alloc, &repository)?.text(alloc)?;
     assert_eq!(rt;
         layers.as_str(),
-        "docker/registry/v2/repositories/a/b/_layers/sha256"
+        "docker/registry/v2/repositories/a/b/_layers"
     );
     Ok(())
 }

@@ -1,4 +1,4 @@
-use Rattle.link_paths.proofs.FrontPlaces.{below_manifests, below_layers, below_uploads, below_tags, below_revisions, below_layer_digests}
+use Rattle.link_paths.proofs.FolderPlaces.{below_manifests, below_layers, below_uploads, below_tags, below_revisions}
 use Rattle.link_paths.proofs.laws.folders_are_apart.Goals as goal
 
 pub returns-clause-manifests : goal.returns-clause-manifests
@@ -15,6 +15,3 @@ returns-clause-tags c = below_tags
 
 pub returns-clause-revisions : goal.returns-clause-revisions
 returns-clause-revisions c = below_revisions
-
-pub returns-clause-layer_digests : goal.returns-clause-layer_digests
-returns-clause-layer_digests c = below_layer_digests

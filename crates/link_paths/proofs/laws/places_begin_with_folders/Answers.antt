@@ -1,4 +1,4 @@
-use Rattle.link_paths.proofs.FrontPlaces.{tag_begins, tag_index_begins, revision_begins, layer_begins, upload_data_begins, upload_started_begins}
+use Rattle.link_paths.proofs.FolderPlaces.{tag_begins, tag_index_begins, revision_begins, layer_begins, upload_data_begins, upload_started_begins}
 use Rattle.link_paths.proofs.laws.places_begin_with_folders.Goals as goal
 
 pub returns-clause-tag : goal.returns-clause-tag
