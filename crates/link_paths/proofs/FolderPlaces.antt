@@ -9,7 +9,8 @@ use Rattle.depot_api.specs.Paths.{parts_of}
 use Rattle.link_paths.specs.declared.place.Place.{Place}
 use Rattle.link_paths.specs.declared.place.Place.TheVariants.{BlobData, Revision, TagCurrent, TagIndex, Layer, UploadData, UploadStarted}
 use Rattle.link_paths.specs.Places.{revision_path, tag_path, tag_index_path, layer_path, upload_data_path, upload_started_path, place_path, IsPlace}
-use Rattle.link_paths.specs.Folders.{repository_folder, tags_folder, revisions_folder, layers_folder, current_link, digest_link, repository_of, inside, IsBelow, IsRevisionOf, IsTagOf, IsLayerOf, IsUploadOf}
+use Rattle.link_paths.specs.Folders.{repository_folder, tags_folder, revisions_folder, layers_folder, current_link, digest_link, repository_of, inside, IsRevisionOf, IsTagOf, IsLayerOf, IsUploadOf}
+use Rattle.link_paths.specs.InnerParts.{BeginsHidden}
 use Rattle.link_paths.proofs.Parts.{same_text}
 use Rattle.link_paths.proofs.NameParts.{name_is_open}
 use Rattle.link_paths.proofs.HiddenParts.{found}
@@ -17,12 +18,12 @@ use Rattle.link_paths.proofs.PlaceParts.{parts_of_place}
 
 -- ---- what lies below a folder of a repository is that repository's
 
-lies_inside : (p : Place) (name : List ℕ) (rest : List (List ℕ)) → IsPlace p → IsName name → IsBelow rest → place_path p ≡ repository_folder name ++ rest → (repository_of p ≡ Some name) × (inside p ≡ rest)
+lies_inside : (p : Place) (name : List ℕ) (rest : List (List ℕ)) → IsPlace p → IsName name → BeginsHidden rest → place_path p ≡ repository_folder name ++ rest → (repository_of p ≡ Some name) × (inside p ≡ rest)
 lies_inside p name rest h is_name below e =
     let f = found p (parts_of name) rest h (name_is_open name is_name) below (sym (parts_of_place p h) ∙ e) in
     (f.of ∙ ap Some (same_text f.name name f.same_names), f.same_rest)
 
-below_hidden : (letters : List ℕ) (rest : List (List ℕ)) → IsBelow ((95 ∷ letters) ∷ rest)
+below_hidden : (letters : List ℕ) (rest : List (List ℕ)) → BeginsHidden ((95 ∷ letters) ∷ rest)
 below_hidden letters rest = record { first = 95 ∷ letters; more = rest; is = refl; hidden = refl }
 
 in_manifests : (p : Place) (name : List ℕ) (rest : List (List ℕ)) → repository_of p ≡ Some name → inside p ≡ codes "_manifests" ∷ rest → IsRevisionOf name p ⊎ IsTagOf name p

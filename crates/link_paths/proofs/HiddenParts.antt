@@ -8,7 +8,8 @@ use Rattle.depot_api.specs.Paths.{parts_of}
 use Rattle.link_paths.specs.declared.place.Place.{Place}
 use Rattle.link_paths.specs.declared.place.Place.TheVariants.{BlobData, Revision, TagCurrent, TagIndex, Layer, UploadData, UploadStarted}
 use Rattle.link_paths.specs.Places.{IsPlace}
-use Rattle.link_paths.specs.Folders.{is_hidden, IsBelow, repository_of, inside, place_parts, folder_of}
+use Rattle.link_paths.specs.Folders.{repository_of, inside, place_parts, folder_of}
+use Rattle.link_paths.specs.InnerParts.{is_hidden, BeginsHidden}
 use Rattle.link_paths.proofs.NameParts.{name_is_open}
 
 or_false : (x y : Bool) → x || y ≡ false → (x ≡ false) × (y ≡ false)
@@ -16,7 +17,7 @@ or_false true y h = cc h
 or_false false y h = (refl, h)
 
 -- open parts before the first hidden one are known by the whole
-pub same_cut : (names others rest tail : List (List ℕ)) → list_any is_hidden names ≡ false → list_any is_hidden others ≡ false → IsBelow rest → IsBelow tail → names ++ rest ≡ others ++ tail → (names ≡ others) × (rest ≡ tail)
+pub same_cut : (names others rest tail : List (List ℕ)) → list_any is_hidden names ≡ false → list_any is_hidden others ≡ false → BeginsHidden rest → BeginsHidden tail → names ++ rest ≡ others ++ tail → (names ≡ others) × (rest ≡ tail)
 same_cut [] [] rest tail h k below other e = (refl, e)
 same_cut [] (y ∷ others) rest tail h k below other e =
     let first : y ≡ below.first = cc (e, below.is) in
@@ -32,7 +33,7 @@ same_cut (x ∷ names) (y ∷ others) rest tail h k below other e =
 
 -- ---- what lies in a repository
 
-pub inside_is_below : (place : Place) (name : List ℕ) → repository_of place ≡ Some name → IsBelow (inside place)
+pub inside_is_below : (place : Place) (name : List ℕ) → repository_of place ≡ Some name → BeginsHidden (inside place)
 inside_is_below (BlobData d) name is = cc is
 inside_is_below (Revision n d) name is = record { first = _; more = _; is = refl; hidden = refl }
 inside_is_below (TagCurrent n t) name is = record { first = _; more = _; is = refl; hidden = refl }
@@ -58,7 +59,7 @@ pub record IsFound (place : Place) (names rest : List (List ℕ)) : Type 0 where
   pub same_names : parts_of name ≡ names
   pub same_rest : inside place ≡ rest
 
-found_at : (place : Place) (of : Option (List ℕ)) (names rest : List (List ℕ)) → IsPlace place → repository_of place ≡ of → list_any is_hidden names ≡ false → IsBelow rest → folder_of of ++ inside place ≡ codes "docker" ∷ codes "registry" ∷ codes "v2" ∷ codes "repositories" ∷ (names ++ rest) → IsFound place names rest
+found_at : (place : Place) (of : Option (List ℕ)) (names rest : List (List ℕ)) → IsPlace place → repository_of place ≡ of → list_any is_hidden names ≡ false → BeginsHidden rest → folder_of of ++ inside place ≡ codes "docker" ∷ codes "registry" ∷ codes "v2" ∷ codes "repositories" ∷ (names ++ rest) → IsFound place names rest
 found_at place None names rest h is open_names below e =
     let letters : ◌≡◌ {A = ℕ} 98 114 = ap (λ parts. slice_index (get_or parts 3 []) 0) e in
     absurd (omega arith)
@@ -68,5 +69,5 @@ found_at place (Some name) names rest h is open_names below e =
     let same = same_cut (parts_of name) names (inside place) rest (name_is_open name is_name) open_names (inside_is_below place name is) below below_all in
     record { name = name; of = is; is_name = is_name; same_names = same.0; same_rest = same.1 }
 
-pub found : (place : Place) (names rest : List (List ℕ)) → IsPlace place → list_any is_hidden names ≡ false → IsBelow rest → place_parts place ≡ codes "docker" ∷ codes "registry" ∷ codes "v2" ∷ codes "repositories" ∷ (names ++ rest) → IsFound place names rest
+pub found : (place : Place) (names rest : List (List ℕ)) → IsPlace place → list_any is_hidden names ≡ false → BeginsHidden rest → place_parts place ≡ codes "docker" ∷ codes "registry" ∷ codes "v2" ∷ codes "repositories" ∷ (names ++ rest) → IsFound place names rest
 found place names rest h open_names below e = found_at place (repository_of place) names rest h refl open_names below e

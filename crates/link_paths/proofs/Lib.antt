@@ -1,9 +1,6 @@
 pub mod Parts
-pub mod ArePaths
 pub mod NameParts
-pub mod TagsInPaths
-pub mod DigitsInPaths
-pub mod IdsInPaths
+pub mod KeyParts
 pub mod HiddenParts
 pub mod PlaceParts
 pub mod ReadPlaces

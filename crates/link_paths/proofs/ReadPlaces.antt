@@ -9,10 +9,11 @@ use Rattle.depot_api.specs.Paths.{parts_of, path_text, is_part, IsPath}
 use Rattle.depot_api.proofs.PathLaws.{parts_of-path_text}
 use Rattle.link_paths.specs.declared.place.Place.{Place}
 use Rattle.link_paths.specs.Places.{place_path, IsPlace}
-use Rattle.link_paths.specs.Folders.{is_hidden, IsCutAtHidden, IsPlaceOf, inside, place_parts, folder_of}
+use Rattle.link_paths.specs.Folders.{inside, place_parts, folder_of}
+use Rattle.link_paths.specs.InnerParts.{is_hidden, IsCutAtHidden, IsPlaceOf}
 use Rattle.link_paths.specs.ReadsAt.{ReadsAt}
 use Rattle.link_paths.proofs.Parts.{path_text-parts_of, same_text}
-use Rattle.link_paths.proofs.NameParts.{name_length}
+use Rattle.link_paths.proofs.NameParts.{name_spelled}
 use Rattle.link_paths.proofs.HiddenParts.{found}
 use Rattle.link_paths.proofs.PlaceParts.{parts_of_place}
 
@@ -67,7 +68,7 @@ cut_position (p ∷ parts) = cut_first p parts (is_hidden p) refl (cut_position 
 IsPath-name : (parts : List (List ℕ)) → list_all is_part parts ≡ true → IsName (path_text parts) → IsPath parts
 IsPath-name [] h n = absurd (false≢true n)
 IsPath-name (p ∷ ps) h n =
-    and_from _ _ (and_from _ _ (le-leb 1 (length (p ∷ ps)) (omega arith)) h) (le-leb (length (path_text (p ∷ ps))) 4096 (omega (arith, name_length (path_text (p ∷ ps)) n)))
+    and_from _ _ (and_from _ _ (le-leb 1 (length (p ∷ ps)) (omega arith)) h) (le-leb (length (path_text (p ∷ ps))) 4096 (omega (arith, (name_spelled (path_text (p ∷ ps)) n).short)))
 
 pub name_of_parts : {E : Type 0} (parts : List (List ℕ)) (text : List ℕ) (r : Result (Option (List ℕ)) E) → list_all is_part parts ≡ true → text ≡ path_text parts → IfOk r (ReadsExactly IsName text) → IfOk r (ReadsAt IsName parts_of parts)
 name_of_parts parts text (Ok (Some name)) h e read =

@@ -1,12 +1,11 @@
 -- Paths of places by their parts: the folders of a repository, and what lies in each.
-use Rattle.std.specs.Prelude.{◌≡◌, ℕ, ◌++◌, ◌==◌, Bool, false, List, [], ◌∷◌, Option, Some, None, codes, take, IsTrue}
-use Rattle.std.specs.List.{list_any}
+use Rattle.std.specs.Prelude.{◌≡◌, ℕ, ◌++◌, List, [], ◌∷◌, Option, Some, None, codes, take}
+use Rattle.reg_names.specs.Names.{IsName}
 use Rattle.reg_names.specs.UploadIds.{upload_id_text}
 use Rattle.depot_api.specs.Paths.{parts_of}
 use Rattle.link_paths.specs.declared.place.Place.{Place}
 use Rattle.link_paths.specs.declared.place.Place.TheVariants.{BlobData, Revision, TagCurrent, TagIndex, Layer, UploadData, UploadStarted}
-use Rattle.reg_names.specs.Names.{IsName}
-use Rattle.link_paths.specs.Places.{digits, IsPlace}
+use Rattle.link_paths.specs.Places.{digits}
 use Rattle.link_paths.specs.ReadsAt.{ReadsAt}
 
 -- ---- folders
@@ -19,13 +18,15 @@ blobs_folder = codes "docker" ∷ codes "registry" ∷ codes "v2" ∷ codes "blo
 abbrev pub repository_folder : List ℕ → List (List ℕ)
 repository_folder name = codes "docker" ∷ codes "registry" ∷ codes "v2" ∷ codes "repositories" ∷ parts_of name
 
--- those of its tags, of its links to manifests and of its links to blobs
+-- the folder of its tags
 abbrev pub tags_folder : List ℕ → List (List ℕ)
 tags_folder name = repository_folder name ++ (codes "_manifests" ∷ codes "tags" ∷ [])
 
+-- the folder of its links to manifests
 abbrev pub revisions_folder : List ℕ → List (List ℕ)
 revisions_folder name = repository_folder name ++ (codes "_manifests" ∷ codes "revisions" ∷ [])
 
+-- the folder of its links to blobs
 abbrev pub layers_folder : List ℕ → List (List ℕ)
 layers_folder name = repository_folder name ++ (codes "_layers" ∷ [])
 
@@ -63,7 +64,7 @@ repository_of (UploadStarted name id) = Some name
 abbrev pub inside : Place → List (List ℕ)
 inside (BlobData digest) = blob_file digest
 inside (Revision name digest) = codes "_manifests" ∷ codes "revisions" ∷ digest_link digest
-inside (TagCurrent name tag) = codes "_manifests" ∷ codes "tags" ∷ tag ∷ codes "current" ∷ codes "link" ∷ []
+inside (TagCurrent name tag) = codes "_manifests" ∷ codes "tags" ∷ current_link tag
 inside (TagIndex name tag digest) = codes "_manifests" ∷ codes "tags" ∷ tag ∷ codes "index" ∷ digest_link digest
 inside (Layer name digest) = codes "_layers" ∷ digest_link digest
 inside (UploadData name id) = codes "_uploads" ∷ upload_id_text id ∷ codes "data" ∷ []
@@ -78,43 +79,24 @@ folder_of (Some name) = repository_folder name
 abbrev pub place_parts : Place → List (List ℕ)
 place_parts place = folder_of (repository_of place) ++ inside place
 
--- a place of this repository
-abbrev pub IsPlaceOf : List ℕ → Place → Type 0
-IsPlaceOf name place = IsPlace place × (repository_of place ≡ Some name)
-
--- a link to a manifest of this repository; a link of one of its tags; a link to one of its blobs; a file of one of its uploads
+-- a link of this repository to a manifest
 abbrev pub IsRevisionOf : List ℕ → Place → Type 0
 IsRevisionOf name (Revision of digest) = of ≡ name
 IsRevisionOf name place = ⊥
 
+-- a link of one of its tags
 abbrev pub IsTagOf : List ℕ → Place → Type 0
 IsTagOf name (TagCurrent of tag) = of ≡ name
 IsTagOf name (TagIndex of tag digest) = of ≡ name
 IsTagOf name place = ⊥
 
+-- its link to a blob
 abbrev pub IsLayerOf : List ℕ → Place → Type 0
 IsLayerOf name (Layer of digest) = of ≡ name
 IsLayerOf name place = ⊥
 
+-- a file of one of its uploads
 abbrev pub IsUploadOf : List ℕ → Place → Type 0
 IsUploadOf name (UploadData of id) = of ≡ name
 IsUploadOf name (UploadStarted of id) = of ≡ name
 IsUploadOf name place = ⊥
-
--- a part that begins with an underscore, as no component of a name does
-abbrev pub is_hidden : List ℕ → Bool
-is_hidden [] = false
-is_hidden (b ∷ bs) = b == 95
-
--- parts of which the first is such a one
-pub record IsBelow (parts : List (List ℕ)) : Type 0 where
-  pub first : List ℕ
-  pub more : List (List ℕ)
-  pub is : parts ≡ first ∷ more
-  pub hidden : IsTrue (is_hidden first)
-
--- the parts before the first such part, and that part with what follows it
-pub record IsCutAtHidden (parts name rest : List (List ℕ)) : Type 0 where
-  pub is : parts ≡ name ++ rest
-  pub open_name : list_any is_hidden name ≡ false
-  pub below : IsBelow rest

@@ -1,3 +1,4 @@
 pub mod Places
 pub mod Folders
 pub mod ReadsAt
+pub mod InnerParts

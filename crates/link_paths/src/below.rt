@@ -16,7 +16,7 @@ use std::alloc::Global;
 pub fn tag_below(alloc: Global, folder: &Path, path: &Path) -> Result<Option<Tag>, NoMemory>
     ensures { IfOk result (ReadsBelow tags_folder IsTag tag_path folder.now path.now) }
 {
-    match below(folder, path) {
+    match after_folder(folder, path) {
         Some(parts) => read_current_link(alloc, parts),
         None => Ok(None),
     }
@@ -27,7 +27,7 @@ pub fn tag_below(alloc: Global, folder: &Path, path: &Path) -> Result<Option<Tag
 pub fn revision_below(alloc: Global, folder: &Path, path: &Path) -> Result<Option<Digest>, NoMemory>
     ensures { IfOk result (ReadsBelow revisions_folder IsDigest revision_path folder.now path.now) }
 {
-    match below(folder, path) {
+    match after_folder(folder, path) {
         Some(parts) => read_digest_link(alloc, parts),
         None => Ok(None),
     }
@@ -38,14 +38,14 @@ pub fn revision_below(alloc: Global, folder: &Path, path: &Path) -> Result<Optio
 pub fn layer_below(alloc: Global, folder: &Path, path: &Path) -> Result<Option<Digest>, NoMemory>
     ensures { IfOk result (ReadsBelow layers_folder IsDigest layer_path folder.now path.now) }
 {
-    match below(folder, path) {
+    match after_folder(folder, path) {
         Some(parts) => read_digest_link(alloc, parts),
         None => Ok(None),
     }
 }
 
 // What follows a folder.
-fn below<'a>(folder: &Path, path: &'a Path) -> Option<&'a [Part]>
+fn after_folder<'a>(folder: &Path, path: &'a Path) -> Option<&'a [Part]>
     ensures { MatchOption result ((rest : List (List ℕ)) → path.now ≢ folder.now ++ rest) (λ rest. path.now ≡ folder.now ++ rest.now) }
 {
     path.parts().strip_prefix(folder.parts())

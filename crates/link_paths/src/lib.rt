@@ -10,8 +10,6 @@ mod laws;
 mod paths;
 mod place;
 mod reading;
-#[cfg(test)]
-mod tests;
 
 pub use below::{layer_below, revision_below, tag_below};
 pub use laws::{

@@ -6,7 +6,8 @@ ghost use Rattle.reg_names.specs.Tags.{IsTag};
 ghost use Rattle.reg_names.specs.Digests.{IsDigest};
 ghost use Rattle.depot_api.specs.Paths.{is_part, parts_of};
 ghost use Rattle.link_paths.specs.Places.{digits, place_path, IsPlace};
-ghost use Rattle.link_paths.specs.Folders.{digest_link, blob_file, inside, place_parts, IsPlaceOf, is_hidden, IsCutAtHidden};
+ghost use Rattle.link_paths.specs.Folders.{digest_link, blob_file, inside, place_parts};
+ghost use Rattle.link_paths.specs.InnerParts.{IsPlaceOf, is_hidden, IsCutAtHidden};
 ghost use Rattle.link_paths.specs.ReadsAt.{ReadsAt};
 
 use crate::Place;

@@ -1,5 +1,5 @@
 use Rattle.std.proofs.Common.{◌∙◌}
-use Rattle.link_paths.proofs.DigitsInPaths.{first_digits}
+use Rattle.link_paths.proofs.KeyParts.{first_digits}
 use Rattle.link_paths.proofs.paths.first_digits_of.Goals as goal
 
 pub returns-clause-digits : goal.returns-clause-digits

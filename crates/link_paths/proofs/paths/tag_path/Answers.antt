@@ -1,9 +1,8 @@
-use Rattle.link_paths.specs.Places.{tag_path}
-use Rattle.link_paths.proofs.PlaceParts.{IsPath-tag_path}
+use Rattle.std.proofs.Common.{lit≤}
+use Rattle.link_paths.proofs.PlaceParts.{current_spelled, IsTail-spelled}
 use Rattle.link_paths.proofs.paths.tag_path.Goals as goal
 
-pub path-requires : goal.path-requires
-unfolding tag_path
-path-requires c =
-    rw (c.deref.ensures, c.in_ok-format.ensures.ok, c.as_str-name.ensures.bytes, c.as_str-tag.ensures.bytes)
-    (IsPath-tag_path c.args.name.now c.args.tag.now c.as_str-name.ensures.name c.as_str-tag.ensures.tag)
+pub in_repository-requires-clause-inside : goal.in_repository-requires-clause-inside
+in_repository-requires-clause-inside c =
+    rw (c.deref.ensures, c.in_ok-format.ensures.ok, c.as_str-tag.ensures.bytes)
+    (IsTail-spelled (current_spelled c.args.tag.now c.as_str-tag.ensures.tag) (lit≤ tt))

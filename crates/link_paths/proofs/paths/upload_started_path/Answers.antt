@@ -1,9 +1,9 @@
-use Rattle.link_paths.specs.Places.{upload_started_path}
-use Rattle.link_paths.proofs.PlaceParts.{IsPath-upload_started_path}
+use Rattle.std.proofs.Common.{lit≤, codes, refl}
+use Rattle.link_paths.proofs.Parts.{literal}
+use Rattle.link_paths.proofs.PlaceParts.{upload_spelled, IsTail-spelled}
 use Rattle.link_paths.proofs.paths.upload_started_path.Goals as goal
 
-pub path-requires : goal.path-requires
-unfolding upload_started_path
-path-requires c =
-    rw (c.deref.ensures, c.in_ok-format.ensures.ok, c.as_str-name.ensures.bytes, c.as_str-id.ensures.bytes, c.in_ok-id.ensures.text)
-    (IsPath-upload_started_path c.args.name.now c.args.id.now c.as_str-name.ensures.name c.id_text.ensures.id)
+pub in_repository-requires-clause-inside : goal.in_repository-requires-clause-inside
+in_repository-requires-clause-inside c =
+    rw (c.deref.ensures, c.in_ok-format.ensures.ok, c.as_str-id.ensures.bytes, c.in_ok-id.ensures.text)
+    (IsTail-spelled (upload_spelled c.args.id.now c.id_text.ensures.id (literal 9 (codes "startedat") refl refl)) (lit≤ tt))

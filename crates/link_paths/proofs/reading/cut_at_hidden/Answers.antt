@@ -1,7 +1,7 @@
 use Rattle.std.proofs.Common.{rules, tests}
 use Rattle.std.proofs.lemmas.Iterator.{YieldsList-from_slice}
 use Rattle.std.proofs.lemmas.Iterator.Search.{position_from_yields_List}
-use Rattle.link_paths.specs.Folders.{is_hidden}
+use Rattle.link_paths.specs.InnerParts.{is_hidden}
 use Rattle.link_paths.proofs.ReadPlaces.{cut_position}
 use Rattle.link_paths.proofs.reading.cut_at_hidden.Goals as goal
 

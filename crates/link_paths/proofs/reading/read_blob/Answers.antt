@@ -2,7 +2,7 @@ use Rattle.std.proofs.Common.{length, Some, ap, arith}
 use Rattle.reg_names.specs.Digests.{IsDigest}
 use Rattle.link_paths.specs.Places.{digits}
 use Rattle.link_paths.specs.ReadsAt.{ReadsAt}
-use Rattle.link_paths.proofs.DigitsInPaths.{length-digits}
+use Rattle.link_paths.proofs.KeyParts.{length-digits}
 use Rattle.link_paths.proofs.reading.read_blob.Goals as goal
 
 pub begins-requires : goal.begins-requires
