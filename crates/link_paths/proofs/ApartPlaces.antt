@@ -11,7 +11,7 @@ use Rattle.link_paths.specs.declared.place.Place.{Place}
 use Rattle.link_paths.specs.declared.place.Place.TheVariants.{BlobData, Revision, TagCurrent, TagIndex, Layer, UploadData, UploadStarted}
 use Rattle.link_paths.specs.Places.{digits, place_path, IsPlace}
 use Rattle.link_paths.specs.Folders.{repository_of, inside, folder_of, blobs_folder, place_parts}
-use Rattle.link_paths.specs.ReadsAt.{ReadsAt}
+use Rattle.reg_names.specs.Reading.{ReadsBack}
 use Rattle.link_paths.proofs.Parts.{same_text}
 use Rattle.link_paths.proofs.NameParts.{name_is_open}
 use Rattle.link_paths.proofs.HiddenParts.{inside_is_below, repository_name, found}
@@ -80,6 +80,6 @@ same_place p q hp hq e =
     let same = told p q (repository_of q) hp hq refl parts in
     sym (place_back p hp) ∙ ap (λ of. place_at of (inside p)) same.0 ∙ ap (place_at (repository_of q)) same.1 ∙ place_back q hq
 
-pub read_back : (place : Place) (found : Option Place) → IsPlace place → ReadsAt IsPlace place_path (place_path place) found → found ≡ Some place
+pub read_back : (place : Place) (found : Option Place) → IsPlace place → ReadsBack IsPlace place_path (place_path place) found → found ≡ Some place
 read_back place (Some other) is read = ap Some (same_place other place read.0 is read.1)
 read_back place None is read = absurd (read place is refl)

@@ -1,5 +1,5 @@
 -- A tag, the digits of a digest and the text of an upload's id are one part of a path each.
-use Rattle.std.proofs.Common.{◌≡◌, ℕ, zero, suc, ◌<◌, ◌≤◌, ◌*◌, ◌/◌, ◌%◌, ◌&&◌, ◌==◌, true, not, List, [], ◌∷◌, ◌++◌, length, nat_le, take, drop, refl, sym, ap, ◌∙◌, arith, length-append}
+use Rattle.std.proofs.Common.{◌≡◌, ℕ, zero, suc, ◌<◌, ◌≤◌, ◌*◌, ◌/◌, ◌%◌, ◌&&◌, ◌==◌, true, not, List, [], ◌∷◌, ◌++◌, length, nat_le, take, drop, refl, ◌∙◌, arith, length-append}
 use Rattle.std.specs.Prelude.{slice_index}
 use Rattle.std.specs.List.{list_all}
 use Rattle.std.proofs.lemmas.Bool.{and_parts, and_from, agree_below_at, leb-true, false≢true}
@@ -93,17 +93,14 @@ pub digits_spelled : (digest : List ℕ) → IsDigest digest → Spells 64 (digi
 digits_spelled digest h = rw h.is (bytes_spelled 64 h.raw h.bytes (omega (arith, h.long)) (omega (arith, h.long)) (omega arith))
 
 -- the first two are those of the first byte
-take-digits : (raw : List ℕ) → encode_lower (take 1 raw) ≡ take 2 (encode_lower raw)
+pub first_digits : (raw : List ℕ) → encode_lower (take 1 raw) ≡ take 2 (encode_lower raw)
 unfolding encode_with
-take-digits [] = refl
-take-digits (b ∷ raw) = refl
-
-pub first_digits : (digest raw : List ℕ) → digest ≡ 1 ∷ raw → encode_lower (take 1 raw) ≡ take 2 (digits digest)
-first_digits digest raw is = take-digits raw ∙ ap (λ d. take 2 (digits d)) (sym is)
+first_digits [] = refl
+first_digits (b ∷ raw) = refl
 
 pub first_spelled : (digest : List ℕ) → IsDigest digest → Spells 2 (take 2 (digits digest)) (take 2 (digits digest) ∷ [])
 first_spelled digest h =
-    rw (← first_digits digest h.raw h.is)
+    rw (h.is, ← first_digits h.raw)
     (bytes_spelled 2 (take 1 h.raw) (AreBytes-take 1 h.raw h.bytes) (omega (arith, h.long, length-take 1 h.raw)) (omega (arith, h.long, length-take 1 h.raw)) (omega arith))
 
 -- ---- ids

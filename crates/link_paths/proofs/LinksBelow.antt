@@ -5,7 +5,7 @@ use Rattle.std.proofs.Math.Seq.{take-append_seam}
 use Rattle.std.proofs.lemmas.List.{append_cancel_left}
 use Rattle.reg_names.specs.Names.{IsName}
 use Rattle.link_paths.specs.Folders.{ReadsBelow}
-use Rattle.link_paths.specs.ReadsAt.{ReadsAt}
+use Rattle.reg_names.specs.Reading.{ReadsBack}
 
 -- what follows a folder
 pub after_folder : {R : Type 0} (now : R → List (List ℕ)) (folder path : List (List ℕ)) (r : Option R) → MatchOption r (pointwise (pointwise nat_eq) (take (length folder) path) folder ≡ false) (λ x. (pointwise (pointwise nat_eq) (take (length folder) path) folder ≡ true) × (now x ≡ drop (length folder) path) × (length (now x) + length folder ≡ length path)) → MatchOption r ((rest : List (List ℕ)) → path ≢ folder ++ rest) (λ x. path ≡ folder ++ now x)
@@ -16,7 +16,7 @@ after_folder now folder path None h = λ rest is.
 
 -- links of one kind, below their folders
 module _ (folder_of : List ℕ → List (List ℕ)) (IsIn : List ℕ → Type 0) (path_of : List ℕ → List ℕ → List (List ℕ)) (link : List ℕ → List (List ℕ)) (begins : (name key : List ℕ) → IsName name → IsIn key → path_of name key ≡ folder_of name ++ link key) (folder path : List (List ℕ)) where
-  pub read_below : {E : Type 0} (rest : List (List ℕ)) (r : Result (Option (List ℕ)) E) → path ≡ folder ++ rest → IfOk r (ReadsAt IsIn link rest) → IfOk r (ReadsBelow folder_of IsIn path_of folder path)
+  pub read_below : {E : Type 0} (rest : List (List ℕ)) (r : Result (Option (List ℕ)) E) → path ≡ folder ++ rest → IfOk r (ReadsBack IsIn link rest) → IfOk r (ReadsBelow folder_of IsIn path_of folder path)
   read_below rest (Ok (Some key)) at read = λ name n is. (read.0, begins name key n read.0 ∙ ap (λ f. f ++ link key) (sym is) ∙ ap (λ parts. folder ++ parts) read.1 ∙ sym at)
   read_below rest (Ok None) at read = λ name n is key h there. read key h (append_cancel_left folder (link key) rest (ap (λ f. f ++ link key) is ∙ sym (begins name key n h) ∙ there ∙ at))
   read_below rest (Err e) at read = tt

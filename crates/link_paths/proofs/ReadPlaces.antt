@@ -11,7 +11,7 @@ use Rattle.link_paths.specs.declared.place.Place.{Place}
 use Rattle.link_paths.specs.Places.{place_path, IsPlace}
 use Rattle.link_paths.specs.Folders.{inside, place_parts, folder_of}
 use Rattle.link_paths.specs.InnerParts.{is_hidden, IsCutAtHidden, IsPlaceOf}
-use Rattle.link_paths.specs.ReadsAt.{ReadsAt}
+use Rattle.reg_names.specs.Reading.{ReadsBack}
 use Rattle.link_paths.proofs.Parts.{path_text-parts_of, same_text}
 use Rattle.link_paths.proofs.NameParts.{name_spelled}
 use Rattle.link_paths.proofs.HiddenParts.{found}
@@ -70,7 +70,7 @@ IsPath-name [] h n = absurd (false≢true n)
 IsPath-name (p ∷ ps) h n =
     and_from _ _ (and_from _ _ (le-leb 1 (length (p ∷ ps)) (omega arith)) h) (le-leb (length (path_text (p ∷ ps))) 4096 (omega (arith, (name_spelled (path_text (p ∷ ps)) n).short)))
 
-pub name_of_parts : {E : Type 0} (parts : List (List ℕ)) (text : List ℕ) (r : Result (Option (List ℕ)) E) → list_all is_part parts ≡ true → text ≡ path_text parts → IfOk r (ReadsExactly IsName text) → IfOk r (ReadsAt IsName parts_of parts)
+pub name_of_parts : {E : Type 0} (parts : List (List ℕ)) (text : List ℕ) (r : Result (Option (List ℕ)) E) → list_all is_part parts ≡ true → text ≡ path_text parts → IfOk r (ReadsExactly IsName text) → IfOk r (ReadsBack IsName parts_of parts)
 name_of_parts parts text (Ok (Some name)) h e read =
     let is : name ≡ path_text parts = read.0 ∙ e in
     (subst IsName (sym read.0) read.1, ap parts_of is ∙ parts_of-path_text parts (IsPath-name parts h (subst IsName e read.1)))
@@ -82,7 +82,7 @@ name_of_parts parts text (Err x) h e read = tt
 abbrev pub in_repositories : List (List ℕ) → List (List ℕ)
 in_repositories parts = codes "docker" ∷ codes "registry" ∷ codes "v2" ∷ codes "repositories" ∷ parts
 
-pub inside_read : {E : Type 0} (parts names rest : List (List ℕ)) (name : List ℕ) (r : Result (Option Place) E) → IsCutAtHidden parts names rest → parts_of name ≡ names → IfOk r (ReadsAt (IsPlaceOf name) inside rest) → IfOk r (ReadsAt IsPlace place_parts (in_repositories parts))
+pub inside_read : {E : Type 0} (parts names rest : List (List ℕ)) (name : List ℕ) (r : Result (Option Place) E) → IsCutAtHidden parts names rest → parts_of name ≡ names → IfOk r (ReadsBack (IsPlaceOf name) inside rest) → IfOk r (ReadsBack IsPlace place_parts (in_repositories parts))
 inside_read parts names rest name (Ok (Some place)) cut is read =
     let front : place_parts place ≡ in_repositories (parts_of name ++ inside place) = ap (λ of. folder_of of ++ inside place) read.0.1 in
     let whole : in_repositories (parts_of name ++ inside place) ≡ in_repositories parts = rw (is, read.1, cut.is) refl in
@@ -100,7 +100,7 @@ no_name parts names rest cut none place h e =
 
 -- ---- the place of a path
 
-pub by_path : {E : Type 0} (path : List (List ℕ)) (r : Result (Option Place) E) → IfOk r (ReadsAt IsPlace place_parts path) → IfOk r (ReadsAt IsPlace place_path path)
+pub by_path : {E : Type 0} (path : List (List ℕ)) (r : Result (Option Place) E) → IfOk r (ReadsBack IsPlace place_parts path) → IfOk r (ReadsBack IsPlace place_path path)
 by_path path (Ok (Some place)) read = (read.0, parts_of_place place read.0 ∙ read.1)
 by_path path (Ok None) read = λ place h e. read place h (sym (parts_of_place place h) ∙ e)
 by_path path (Err x) read = tt

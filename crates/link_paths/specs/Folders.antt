@@ -6,7 +6,7 @@ use Rattle.depot_api.specs.Paths.{parts_of}
 use Rattle.link_paths.specs.declared.place.Place.{Place}
 use Rattle.link_paths.specs.declared.place.Place.TheVariants.{BlobData, Revision, TagCurrent, TagIndex, Layer, UploadData, UploadStarted}
 use Rattle.link_paths.specs.Places.{digits}
-use Rattle.link_paths.specs.ReadsAt.{ReadsAt}
+use Rattle.reg_names.specs.Reading.{ReadsBack}
 
 -- ---- folders
 
@@ -34,7 +34,7 @@ layers_folder name = repository_folder name ++ (codes "_layers" ∷ [])
 abbrev pub ReadsBelow : (folder_of : List ℕ → List (List ℕ)) (IsIn : List ℕ → Type 0)
     (path_of : List ℕ → List ℕ → List (List ℕ)) (folder path : List (List ℕ)) → Option (List ℕ) → Type 0
 ReadsBelow folder_of IsIn path_of folder path found =
-    (name : List ℕ) → IsName name → folder ≡ folder_of name → ReadsAt IsIn (path_of name) path found
+    (name : List ℕ) → IsName name → folder ≡ folder_of name → ReadsBack IsIn (path_of name) path found
 
 -- ---- what lies below
 

@@ -1,4 +1,3 @@
 pub mod Places
 pub mod Folders
-pub mod ReadsAt
 pub mod InnerParts

@@ -4,7 +4,7 @@ ghost use Rattle.reg_names.specs.Tags.{IsTag};
 ghost use Rattle.reg_names.specs.Digests.{IsDigest};
 ghost use Rattle.link_paths.specs.Places.{layer_path, revision_path, tag_path};
 ghost use Rattle.link_paths.specs.Folders.{current_link, tags_folder, revisions_folder, layers_folder, ReadsBelow};
-ghost use Rattle.link_paths.specs.ReadsAt.{ReadsAt};
+ghost use Rattle.reg_names.specs.Reading.{ReadsBack};
 
 use crate::reading::{is, read_digest_link};
 use depot_api::{Part, Path};
@@ -53,7 +53,7 @@ fn after_folder<'a>(folder: &Path, path: &'a Path) -> Option<&'a [Part]>
 
 // The tag of its link.
 fn read_current_link(alloc: Global, parts: &[Part]) -> Result<Option<Tag>, NoMemory>
-    ensures { IfOk result (ReadsAt IsTag current_link parts.now) }
+    ensures { IfOk result (ReadsBack IsTag current_link parts.now) }
 {
     match parts {
         [tag, folder, file] if is(folder, "current") && is(file, "link") => {

@@ -9,7 +9,7 @@ ghost use Rattle.reg_names.specs.UploadIds.{IsUploadId, upload_id_text};
 ghost use Rattle.depot_api.specs.Paths.{IsPath, is_below};
 ghost use Rattle.link_paths.specs.Places.{layer_path, revision_path, tag_path, tag_index_path, upload_data_path, upload_started_path, place_path, IsPlace};
 ghost use Rattle.link_paths.specs.Folders.{repository_folder, tags_folder, revisions_folder, layers_folder, current_link, digest_link, place_parts, IsRevisionOf, IsTagOf, IsLayerOf, IsUploadOf};
-ghost use Rattle.link_paths.specs.ReadsAt.{ReadsAt};
+ghost use Rattle.reg_names.specs.Reading.{ReadsBack};
 ghost use Rattle.link_paths.specs.declared.place.Place.{Place};
 
 /// Each place is where a file may lie.
@@ -24,7 +24,7 @@ pub fn places_are_apart()
 
 /// What is read exactly from the path of a place is that place.
 pub fn places_read_back()
-    ensures { (place : Place) (found : Option Place) → IsPlace place → ReadsAt IsPlace place_path (place_path place) found → found ≡ Some place }
+    ensures { (place : Place) (found : Option Place) → IsPlace place → ReadsBack IsPlace place_path (place_path place) found → found ≡ Some place }
 {}
 
 /// The parts of each place's path.

@@ -8,7 +8,7 @@ ghost use Rattle.depot_api.specs.Paths.{is_part, parts_of};
 ghost use Rattle.link_paths.specs.Places.{digits, place_path, IsPlace};
 ghost use Rattle.link_paths.specs.Folders.{digest_link, blob_file, inside, place_parts};
 ghost use Rattle.link_paths.specs.InnerParts.{IsPlaceOf, is_hidden, IsCutAtHidden};
-ghost use Rattle.link_paths.specs.ReadsAt.{ReadsAt};
+ghost use Rattle.reg_names.specs.Reading.{ReadsBack};
 
 use crate::Place;
 use depot_api::{Part, Path};
@@ -24,7 +24,7 @@ pub(crate) fn is(part: &Part, text: &str) -> bool
 
 // The digest with these digits.
 fn read_digits(alloc: Global, part: &Part) -> Result<Option<Digest>, NoMemory>
-    ensures { IfOk result (ReadsAt IsDigest digits part.now) }
+    ensures { IfOk result (ReadsBack IsDigest digits part.now) }
 {
     let digits = part.as_str();
     Ok(Digest::read(&format!(in alloc; "sha256:{digits}")?))
@@ -32,7 +32,7 @@ fn read_digits(alloc: Global, part: &Part) -> Result<Option<Digest>, NoMemory>
 
 // The digest of a link that is named by it.
 pub(crate) fn read_digest_link(alloc: Global, parts: &[Part]) -> Result<Option<Digest>, NoMemory>
-    ensures { IfOk result (ReadsAt IsDigest digest_link parts.now) }
+    ensures { IfOk result (ReadsBack IsDigest digest_link parts.now) }
 {
     match parts {
         [folder, digits, file] if is(folder, "sha256") && is(file, "link") => {
@@ -44,7 +44,7 @@ pub(crate) fn read_digest_link(alloc: Global, parts: &[Part]) -> Result<Option<D
 
 // The digest of a blob's file.
 fn read_blob(alloc: Global, parts: &[Part]) -> Result<Option<Digest>, NoMemory>
-    ensures { IfOk result (ReadsAt IsDigest blob_file parts.now) }
+    ensures { IfOk result (ReadsBack IsDigest blob_file parts.now) }
 {
     match parts {
         [folder, first, digits, file] if is(folder, "sha256") && is(file, "data") => {
@@ -68,7 +68,7 @@ fn begins(digits: &Part, first: &Part) -> bool
 // The name with these components.
 fn read_name(alloc: Global, components: &[Part]) -> Result<Option<Name>, NoMemory>
     requires { IsTrue (list_all is_part components.now) }
-    ensures { IfOk result (ReadsAt IsName parts_of components.now) }
+    ensures { IfOk result (ReadsBack IsName parts_of components.now) }
 {
     let text = Part::join(alloc, components)?;
     Name::read(alloc, text.as_str())
@@ -92,7 +92,7 @@ fn cut_at_hidden(parts: &[Part]) -> Option<(&[Part], &[Part])>
 // What lies in a repository.
 fn read_inside(alloc: Global, name: Name, parts: &[Part]) -> Result<Option<Place>, NoMemory>
     requires { IsName name }
-    ensures { IfOk result (ReadsAt (IsPlaceOf name) inside parts.now) }
+    ensures { IfOk result (ReadsBack (IsPlaceOf name) inside parts.now) }
 {
     let Some((folder, parts)) = parts.split_first() else {
         return Ok(None);
@@ -108,7 +108,7 @@ fn read_inside(alloc: Global, name: Name, parts: &[Part]) -> Result<Option<Place
 // What lies in its folder of layers.
 fn read_layer_link(alloc: Global, name: Name, parts: &[Part]) -> Result<Option<Place>, NoMemory>
     requires { IsName name }
-    ensures { IfOk result (ReadsAt (IsPlaceOf name) inside (codes "_layers" ∷ parts.now)) }
+    ensures { IfOk result (ReadsBack (IsPlaceOf name) inside (codes "_layers" ∷ parts.now)) }
 {
     match read_digest_link(alloc, parts)? {
         Some(digest) => Ok(Some(Place::Layer(name, digest))),
@@ -119,7 +119,7 @@ fn read_layer_link(alloc: Global, name: Name, parts: &[Part]) -> Result<Option<P
 // What lies in its folder of manifests.
 fn read_manifest_link(alloc: Global, name: Name, parts: &[Part]) -> Result<Option<Place>, NoMemory>
     requires { IsName name }
-    ensures { IfOk result (ReadsAt (IsPlaceOf name) inside (codes "_manifests" ∷ parts.now)) }
+    ensures { IfOk result (ReadsBack (IsPlaceOf name) inside (codes "_manifests" ∷ parts.now)) }
 {
     match parts {
         [folder, parts @ ..] if is(folder, "revisions") => read_revision_link(alloc, name, parts),
@@ -133,7 +133,7 @@ fn read_manifest_link(alloc: Global, name: Name, parts: &[Part]) -> Result<Optio
 
 fn read_revision_link(alloc: Global, name: Name, parts: &[Part]) -> Result<Option<Place>, NoMemory>
     requires { IsName name }
-    ensures { IfOk result (ReadsAt (IsPlaceOf name) inside (codes "_manifests" ∷ codes "revisions" ∷ parts.now)) }
+    ensures { IfOk result (ReadsBack (IsPlaceOf name) inside (codes "_manifests" ∷ codes "revisions" ∷ parts.now)) }
 {
     match read_digest_link(alloc, parts)? {
         Some(digest) => Ok(Some(Place::Revision(name, digest))),
@@ -150,7 +150,7 @@ fn read_tag_link(
 ) -> Result<Option<Place>, NoMemory>
     requires name { IsName name }
     requires tag { IsTag tag }
-    ensures { IfOk result (ReadsAt (IsPlaceOf name) inside (codes "_manifests" ∷ codes "tags" ∷ tag ∷ parts.now)) }
+    ensures { IfOk result (ReadsBack (IsPlaceOf name) inside (codes "_manifests" ∷ codes "tags" ∷ tag ∷ parts.now)) }
 {
     match parts {
         [folder, file] if is(folder, "current") && is(file, "link") => {
@@ -167,7 +167,7 @@ fn read_tag_link(
 // What lies in its folder of uploads.
 fn read_upload_file(name: Name, parts: &[Part]) -> Result<Option<Place>, NoMemory>
     requires { IsName name }
-    ensures { IfOk result (ReadsAt (IsPlaceOf name) inside (codes "_uploads" ∷ parts.now)) }
+    ensures { IfOk result (ReadsBack (IsPlaceOf name) inside (codes "_uploads" ∷ parts.now)) }
 {
     let [id, file] = parts else {
         return Ok(None);
@@ -185,7 +185,7 @@ fn read_upload_file(name: Name, parts: &[Part]) -> Result<Option<Place>, NoMemor
 // What lies in one of the repositories.
 fn read_in_repositories(alloc: Global, parts: &[Part]) -> Result<Option<Place>, NoMemory>
     requires { IsTrue (list_all is_part parts.now) }
-    ensures { IfOk result (ReadsAt IsPlace place_parts (codes "docker" ∷ codes "registry" ∷ codes "v2" ∷ codes "repositories" ∷ parts.now)) }
+    ensures { IfOk result (ReadsBack IsPlace place_parts (codes "docker" ∷ codes "registry" ∷ codes "v2" ∷ codes "repositories" ∷ parts.now)) }
 {
     let Some((name, parts)) = cut_at_hidden(parts) else {
         return Ok(None);
@@ -199,7 +199,7 @@ fn read_in_repositories(alloc: Global, parts: &[Part]) -> Result<Option<Place>, 
 // The place whose path has these parts.
 fn read_parts(alloc: Global, parts: &[Part]) -> Result<Option<Place>, NoMemory>
     requires { IsTrue (list_all is_part parts.now) }
-    ensures { IfOk result (ReadsAt IsPlace place_parts parts.now) }
+    ensures { IfOk result (ReadsBack IsPlace place_parts parts.now) }
 {
     let Some([folder, parts @ ..]) = below_root(parts) else {
         return Ok(None);
@@ -229,7 +229,7 @@ fn below_root(parts: &[Part]) -> Option<&[Part]>
 /// `docker/registry/v2/repositories/a/b/_manifests/tags/v1/current/link` is `Place::TagCurrent` of `a/b` and `v1`, and
 /// `docker/registry/v2/repositories/a/b/_manifests/tags/v1/current` is no place.
 pub fn read_path(alloc: Global, path: &Path) -> Result<Option<Place>, NoMemory>
-    ensures { IfOk result (ReadsAt IsPlace place_path path.now) }
+    ensures { IfOk result (ReadsBack IsPlace place_path path.now) }
 {
     read_parts(alloc, path.parts())
 }
