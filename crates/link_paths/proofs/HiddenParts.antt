@@ -1,5 +1,5 @@
 -- The first part that begins with an underscore ends a name, and is known by the path.
-use Rattle.std.proofs.Common.{◌≡◌, ℕ, ◌||◌, Bool, true, false, List, [], ◌∷◌, ◌++◌, Option, Some, None, get_or, drop, codes, arith, refl, ap, ◌∙◌, subst}
+use Rattle.std.proofs.Common.{◌≡◌, ℕ, ◌||◌, Bool, true, false, List, [], ◌∷◌, ◌++◌, Option, Some, None, get_or, drop, arith, refl, ap, ◌∙◌, subst}
 use Rattle.std.specs.Prelude.{slice_index}
 use Rattle.std.specs.List.{list_any}
 use Rattle.std.proofs.lemmas.Bool.{both_ways}
@@ -9,7 +9,7 @@ use Rattle.link_paths.specs.declared.place.Place.{Place}
 use Rattle.link_paths.specs.declared.place.Place.TheVariants.{BlobData, Revision, TagCurrent, TagIndex, Layer, UploadData, UploadStarted}
 use Rattle.link_paths.specs.Places.{IsPlace}
 use Rattle.link_paths.specs.Folders.{repository_of, inside, place_parts, folder_of}
-use Rattle.link_paths.specs.InnerParts.{is_hidden, BeginsHidden}
+use Rattle.link_paths.specs.InnerParts.{in_repositories, is_hidden, AreOpen, BeginsHidden}
 use Rattle.link_paths.proofs.NameParts.{name_is_open}
 
 or_false : (x y : Bool) → x || y ≡ false → (x ≡ false) × (y ≡ false)
@@ -17,7 +17,7 @@ or_false true y h = cc h
 or_false false y h = (refl, h)
 
 -- open parts before the first hidden one are known by the whole
-pub same_cut : (names others rest tail : List (List ℕ)) → list_any is_hidden names ≡ false → list_any is_hidden others ≡ false → BeginsHidden rest → BeginsHidden tail → names ++ rest ≡ others ++ tail → (names ≡ others) × (rest ≡ tail)
+pub same_cut : (names others rest tail : List (List ℕ)) → AreOpen names → AreOpen others → BeginsHidden rest → BeginsHidden tail → names ++ rest ≡ others ++ tail → (names ≡ others) × (rest ≡ tail)
 same_cut [] [] rest tail h k below other e = (refl, e)
 same_cut [] (y ∷ others) rest tail h k below other e =
     let first : y ≡ below.first = cc (e, below.is) in
@@ -59,7 +59,7 @@ pub record IsFound (place : Place) (names rest : List (List ℕ)) : Type 0 where
   pub same_names : parts_of name ≡ names
   pub same_rest : inside place ≡ rest
 
-found_at : (place : Place) (of : Option (List ℕ)) (names rest : List (List ℕ)) → IsPlace place → repository_of place ≡ of → list_any is_hidden names ≡ false → BeginsHidden rest → folder_of of ++ inside place ≡ codes "docker" ∷ codes "registry" ∷ codes "v2" ∷ codes "repositories" ∷ (names ++ rest) → IsFound place names rest
+found_at : (place : Place) (of : Option (List ℕ)) (names rest : List (List ℕ)) → IsPlace place → repository_of place ≡ of → AreOpen names → BeginsHidden rest → folder_of of ++ inside place ≡ in_repositories (names ++ rest) → IsFound place names rest
 found_at place None names rest h is open_names below e =
     let letters : ◌≡◌ {A = ℕ} 98 114 = ap (λ parts. slice_index (get_or parts 3 []) 0) e in
     absurd (omega arith)
@@ -69,5 +69,5 @@ found_at place (Some name) names rest h is open_names below e =
     let same = same_cut (parts_of name) names (inside place) rest (name_is_open name is_name) open_names (inside_is_below place name is) below below_all in
     record { name = name; of = is; is_name = is_name; same_names = same.0; same_rest = same.1 }
 
-pub found : (place : Place) (names rest : List (List ℕ)) → IsPlace place → list_any is_hidden names ≡ false → BeginsHidden rest → place_parts place ≡ codes "docker" ∷ codes "registry" ∷ codes "v2" ∷ codes "repositories" ∷ (names ++ rest) → IsFound place names rest
+pub found : (place : Place) (names rest : List (List ℕ)) → IsPlace place → AreOpen names → BeginsHidden rest → place_parts place ≡ in_repositories (names ++ rest) → IsFound place names rest
 found place names rest h open_names below e = found_at place (repository_of place) names rest h refl open_names below e

@@ -5,10 +5,11 @@ use Rattle.std.proofs.Math.Seq.{take-append_seam}
 use Rattle.std.proofs.lemmas.List.{append_cancel_left}
 use Rattle.reg_names.specs.Names.{IsName}
 use Rattle.link_paths.specs.Folders.{ReadsBelow}
+use Rattle.link_paths.specs.InnerParts.{Follows}
 use Rattle.reg_names.specs.Reading.{ReadsBack}
 
 -- what follows a folder
-pub after_folder : {R : Type 0} (now : R → List (List ℕ)) (folder path : List (List ℕ)) (r : Option R) → MatchOption r (pointwise (pointwise nat_eq) (take (length folder) path) folder ≡ false) (λ x. (pointwise (pointwise nat_eq) (take (length folder) path) folder ≡ true) × (now x ≡ drop (length folder) path) × (length (now x) + length folder ≡ length path)) → MatchOption r ((rest : List (List ℕ)) → path ≢ folder ++ rest) (λ x. path ≡ folder ++ now x)
+pub after_folder : {R : Type 0} (now : R → List (List ℕ)) (folder path : List (List ℕ)) (r : Option R) → MatchOption r (pointwise (pointwise nat_eq) (take (length folder) path) folder ≡ false) (λ x. (pointwise (pointwise nat_eq) (take (length folder) path) folder ≡ true) × (now x ≡ drop (length folder) path) × (length (now x) + length folder ≡ length path)) → Follows r now folder path
 after_folder now folder path (Some x) h =
     sym (take-append-drop (length folder) path) ∙ ap (λ parts. parts ++ drop (length folder) path) ((pointwise_decides bytes_decides (take (length folder) path) folder).0 h.0) ∙ ap (λ parts. folder ++ parts) (sym h.1)
 after_folder now folder path None h = λ rest is.

@@ -1,14 +1,14 @@
 -- The components of a name are parts of a path, and none begins with an underscore.
 use Rattle.std.proofs.Common.{◌≡◌, ℕ, ◌≤◌, Bool, true, false, List, [], ◌∷◌, ◌++◌, length, refl, ◌∙◌, arith, length-append}
 use Rattle.std.specs.Prelude.{IsTrue}
-use Rattle.std.specs.List.{list_all, list_any}
+use Rattle.std.specs.List.{list_all}
 use Rattle.std.proofs.lemmas.Bool.{and_from}
 use Rattle.std.proofs.lemmas.Bool.Decides.{nat_tests}
 use Rattle.std.proofs.lemmas.List.Folds.{list_all-append, list_any-append}
 use Rattle.reg_names.specs.Names.{is_alphanumeric, IsName, IsWord, last, more, AreDashes, one, another, IsSeparator, dot, underscore, underscores, dashes, IsComponent, word, joined, AreComponents, component, under}
 use Rattle.reg_names.proofs.NamesLaw.{IsName-grammar}
 use Rattle.depot_api.specs.Paths.{parts_of, is_part_byte, is_part}
-use Rattle.link_paths.specs.InnerParts.{is_hidden}
+use Rattle.link_paths.specs.InnerParts.{is_hidden, AreOpen}
 use Rattle.link_paths.proofs.Parts.{is_led, IsPart-led, parts_of-append, parts_of-one, Spells}
 
 -- ---- a component
@@ -63,7 +63,7 @@ begins_so-open (b ∷ bs) h = grind (arith, nat_tests)
 
 record AreOpenParts (parts : List (List ℕ)) : Type 0 where
   all : list_all is_part parts ≡ true
-  none_hidden : list_any is_hidden parts ≡ false
+  none_hidden : AreOpen parts
 
 component_part : (c : List ℕ) → IsComponent c → length c ≤ 255 → AreOpenParts (parts_of c)
 component_part c h short =
@@ -89,7 +89,7 @@ components_parts _ (under c cs h i) short =
 name_parts : (name : List ℕ) → IsName name → AreOpenParts (parts_of name)
 name_parts name h = let form = (IsName-grammar name).0 h in components_parts name form.components form.short
 
-pub name_is_open : (name : List ℕ) → IsName name → list_any is_hidden (parts_of name) ≡ false
+pub name_is_open : (name : List ℕ) → IsName name → AreOpen (parts_of name)
 name_is_open name h = (name_parts name h).none_hidden
 
 pub name_spelled : (name : List ℕ) → IsName name → Spells 255 name (parts_of name)

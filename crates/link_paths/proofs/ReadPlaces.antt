@@ -1,7 +1,7 @@
 -- Reading the place of a path: what each step shows.
-use Rattle.std.proofs.Common.{◌≡◌, ◌≢◌, ℕ, suc, ◌+◌, not, Bool, true, false, cond, List, [], ◌∷◌, ◌++◌, length, take, drop, Option, Some, None, Result, Ok, Err, IfOk, MatchOption, codes, refl, sym, inl, inr, ap, ◌∙◌, subst, arith}
+use Rattle.std.proofs.Common.{◌≡◌, ◌≢◌, ℕ, suc, ◌+◌, not, Bool, true, false, cond, List, [], ◌∷◌, ◌++◌, length, take, drop, Option, Some, None, Result, Ok, Err, IfOk, MatchOption, refl, sym, inl, inr, ap, ◌∙◌, subst, arith}
 use Rattle.std.specs.Prelude.{nat_lt}
-use Rattle.std.specs.List.{list_all, list_any, position, position_or_len}
+use Rattle.std.specs.List.{list_all, position, position_or_len}
 use Rattle.std.proofs.lemmas.Bool.{and_from, le-leb, lt-ltb, le-ltb, cases_lt, false≢true}
 use Rattle.reg_names.specs.Names.{IsName}
 use Rattle.reg_names.specs.Reading.{ReadsExactly}
@@ -10,7 +10,7 @@ use Rattle.depot_api.proofs.PathLaws.{parts_of-path_text}
 use Rattle.link_paths.specs.declared.place.Place.{Place}
 use Rattle.link_paths.specs.Places.{place_path, IsPlace}
 use Rattle.link_paths.specs.Folders.{inside, place_parts, folder_of}
-use Rattle.link_paths.specs.InnerParts.{is_hidden, IsCutAtHidden, IsPlaceOf}
+use Rattle.link_paths.specs.InnerParts.{in_repositories, is_hidden, AreOpen, IsNameCut, ReadsInside}
 use Rattle.reg_names.specs.Reading.{ReadsBack}
 use Rattle.link_paths.proofs.Parts.{path_text-parts_of, same_text}
 use Rattle.link_paths.proofs.NameParts.{name_spelled}
@@ -20,7 +20,7 @@ use Rattle.link_paths.proofs.PlaceParts.{parts_of_place}
 -- ---- the cut at the first hidden part
 
 abbrev CutAt : List (List ℕ) → ℕ → Type 0
-CutAt parts n = IsCutAtHidden parts (take n parts) (drop n parts)
+CutAt parts n = IsNameCut parts (take n parts) (drop n parts)
 
 cut_head : (p : List ℕ) (parts : List (List ℕ)) → is_hidden p ≡ true → CutAt (p ∷ parts) 0
 cut_head p parts h = record { is = refl; open_name = refl; below = record { first = p; more = parts; is = refl; hidden = h } }
@@ -35,7 +35,7 @@ ltb-suc k n = elim (cases_lt k n) [
 ]
 
 abbrev CutFrom : List (List ℕ) → Option ℕ → Type 0
-CutFrom parts r = MatchOption r (list_any is_hidden parts ≡ false) (CutAt parts)
+CutFrom parts r = MatchOption r (AreOpen parts) (CutAt parts)
 
 cut_more : (p : List ℕ) (parts : List (List ℕ)) (k : ℕ) (b : Bool) → is_hidden p ≡ false → CutFrom parts (cond b (Some k) None) → CutFrom (p ∷ parts) (cond b (Some (suc k)) None)
 cut_more p parts k true h cut = cut_later p parts k h cut
@@ -79,10 +79,7 @@ name_of_parts parts text (Err x) h e read = tt
 
 -- ---- what lies in a repository
 
-abbrev pub in_repositories : List (List ℕ) → List (List ℕ)
-in_repositories parts = codes "docker" ∷ codes "registry" ∷ codes "v2" ∷ codes "repositories" ∷ parts
-
-pub inside_read : {E : Type 0} (parts names rest : List (List ℕ)) (name : List ℕ) (r : Result (Option Place) E) → IsCutAtHidden parts names rest → parts_of name ≡ names → IfOk r (ReadsBack (IsPlaceOf name) inside rest) → IfOk r (ReadsBack IsPlace place_parts (in_repositories parts))
+pub inside_read : {E : Type 0} (parts names rest : List (List ℕ)) (name : List ℕ) (r : Result (Option Place) E) → IsNameCut parts names rest → parts_of name ≡ names → ReadsInside name rest r → IfOk r (ReadsBack IsPlace place_parts (in_repositories parts))
 inside_read parts names rest name (Ok (Some place)) cut is read =
     let front : place_parts place ≡ in_repositories (parts_of name ++ inside place) = ap (λ of. folder_of of ++ inside place) read.0.1 in
     let whole : in_repositories (parts_of name ++ inside place) ≡ in_repositories parts = rw (is, read.1, cut.is) refl in
@@ -93,7 +90,7 @@ inside_read parts names rest name (Ok None) cut is read = λ place h e.
     read place (h, at.of ∙ ap Some same) at.same_rest
 inside_read parts names rest name (Err x) cut is read = tt
 
-pub no_name : (parts names rest : List (List ℕ)) → IsCutAtHidden parts names rest → ((name : List ℕ) → IsName name → parts_of name ≢ names) → (place : Place) → IsPlace place → place_parts place ≢ in_repositories parts
+pub no_name : (parts names rest : List (List ℕ)) → IsNameCut parts names rest → ((name : List ℕ) → IsName name → parts_of name ≢ names) → (place : Place) → IsPlace place → place_parts place ≢ in_repositories parts
 no_name parts names rest cut none place h e =
     let at = found place names rest h cut.open_name cut.below (e ∙ ap in_repositories cut.is) in
     none at.name at.is_name at.same_names

@@ -1,9 +1,10 @@
 //! What a link is to, read by what follows the folder that it lies below.
-ghost use Rattle.std.specs.Prelude.{◌≡◌, ◌≢◌, ℕ, ◌++◌, List, MatchOption, IfOk};
+ghost use Rattle.std.specs.Prelude.{IfOk};
 ghost use Rattle.reg_names.specs.Tags.{IsTag};
 ghost use Rattle.reg_names.specs.Digests.{IsDigest};
 ghost use Rattle.link_paths.specs.Places.{layer_path, revision_path, tag_path};
 ghost use Rattle.link_paths.specs.Folders.{current_link, tags_folder, revisions_folder, layers_folder, ReadsBelow};
+ghost use Rattle.link_paths.specs.InnerParts.{Follows};
 ghost use Rattle.reg_names.specs.Reading.{ReadsBack};
 
 use crate::reading::{is, read_digest_link};
@@ -11,8 +12,9 @@ use depot_api::{Part, Path};
 use reg_names::{Digest, NoMemory, Tag};
 use std::alloc::Global;
 
-/// The tag whose link lies at a path, and `None` exactly where none does, with the folder of a repository's tags:
-/// `v1` at `docker/registry/v2/repositories/a/b/_manifests/tags/v1/current/link`.
+/// The tag whose link lies at a path, given the folder of a repository's tags, and `None` exactly
+/// where none of its links does: `v1` below `docker/registry/v2/repositories/a/b/_manifests/tags` at
+/// `docker/registry/v2/repositories/a/b/_manifests/tags/v1/current/link`.
 pub fn tag_below(alloc: Global, folder: &Path, path: &Path) -> Result<Option<Tag>, NoMemory>
     ensures { IfOk result (ReadsBelow tags_folder IsTag tag_path folder.now path.now) }
 {
@@ -22,7 +24,8 @@ pub fn tag_below(alloc: Global, folder: &Path, path: &Path) -> Result<Option<Tag
     }
 }
 
-/// The digest of the manifest whose link lies at a path, with the folder of a repository's links to manifests:
+/// The digest of the manifest whose link lies at a path, given the folder of a repository's links to
+/// manifests, and `None` exactly where none of them does:
 /// `docker/registry/v2/repositories/a/b/_manifests/revisions/sha256/2cf2..9824/link`.
 pub fn revision_below(alloc: Global, folder: &Path, path: &Path) -> Result<Option<Digest>, NoMemory>
     ensures { IfOk result (ReadsBelow revisions_folder IsDigest revision_path folder.now path.now) }
@@ -33,7 +36,8 @@ pub fn revision_below(alloc: Global, folder: &Path, path: &Path) -> Result<Optio
     }
 }
 
-/// The digest of the blob whose link lies at a path, with the folder of a repository's links to blobs:
+/// The digest of the blob whose link lies at a path, given the folder of a repository's links to
+/// blobs, and `None` exactly where none of them does:
 /// `docker/registry/v2/repositories/a/b/_layers/sha256/2cf2..9824/link`.
 pub fn layer_below(alloc: Global, folder: &Path, path: &Path) -> Result<Option<Digest>, NoMemory>
     ensures { IfOk result (ReadsBelow layers_folder IsDigest layer_path folder.now path.now) }
@@ -46,7 +50,7 @@ pub fn layer_below(alloc: Global, folder: &Path, path: &Path) -> Result<Option<D
 
 // What follows a folder.
 fn after_folder<'a>(folder: &Path, path: &'a Path) -> Option<&'a [Part]>
-    ensures { MatchOption result ((rest : List (List ℕ)) → path.now ≢ folder.now ++ rest) (λ rest. path.now ≡ folder.now ++ rest.now) }
+    ensures { Follows result (λ rest. rest.now) folder.now path.now }
 {
     path.parts().strip_prefix(folder.parts())
 }

@@ -42,7 +42,8 @@ pub fn places_begin_with_folders()
     ensures upload_started { (name id : List ℕ) → IsName name → IsUploadId id → upload_started_path name id ≡ repository_folder name ++ codes "_uploads" ∷ upload_id_text id ∷ codes "startedat" ∷ [] }
 {}
 
-/// The places below a folder of a repository are that repository's, also where its name begins another's.
+/// The places below a folder of a repository are that repository's, also where its name begins
+/// another's.
 pub fn folders_are_apart()
     ensures manifests { (name : List ℕ) (place : Place) (rest : List (List ℕ)) → IsName name → IsPlace place → place_path place ≡ repository_folder name ++ codes "_manifests" ∷ rest → IsRevisionOf name place ⊎ IsTagOf name place }
     ensures uploads { (name : List ℕ) (place : Place) (rest : List (List ℕ)) → IsName name → IsPlace place → place_path place ≡ repository_folder name ++ codes "_uploads" ∷ rest → IsUploadOf name place }
@@ -51,7 +52,8 @@ pub fn folders_are_apart()
     ensures layers { (name : List ℕ) (place : Place) (rest : List (List ℕ)) → IsName name → IsPlace place → place_path place ≡ layers_folder name ++ rest → IsLayerOf name place }
 {}
 
-/// Below one folder, paths are in the order of the parts that follow: of their tags, or of their digests.
+/// Below one folder, paths are in the order of the parts that follow: of their tags, or of their
+/// digests.
 pub fn places_are_in_order()
     ensures parts { (folder : List (List ℕ)) (t u : List ℕ) (x y : List (List ℕ)) → IsTrue (is_lt (slice_cmp nat_cmp t u)) → IsTrue (is_below (folder ++ t ∷ x) (folder ++ u ∷ y)) }
     ensures tags { (name t u : List ℕ) → IsName name → IsTag t → IsTag u → is_below (tag_path name t) (tag_path name u) ≡ is_lt (slice_cmp nat_cmp t u) }

@@ -1,8 +1,8 @@
-//! Places: where a registry's files lie below the root of its storage, the path of each, and the place of a path.
-//! Each place has one path, no two have the same, and a path that is no place's is told as such.
-//! Whoever reads or writes the files of a registry takes their paths from here, and knows that two places never
-//! meet. The layout is that of the Distribution registry's storage, `docker/registry/v2`; names, tags and digests
-//! are those of the OCI Distribution Specification 1.1.
+//! Places: where a registry's files lie below the root of its storage, each with the path that is its
+//! alone. Whoever reads or writes the files of a registry takes their paths from here.
+//! A path is read back to its place, and one that is no place's is told as such.
+//! The layout is that of the Distribution registry's storage, `docker/registry/v2`; names, tags and
+//! digests are those of the OCI Distribution Specification 1.1.
 #![tactic(auto)]
 
 mod below;

@@ -18,7 +18,8 @@ use reg_names::{Digest, Name, NoMemory, Tag, Text, UploadId};
 use std::alloc::Global;
 
 /// Where a place lies: `Place::TagCurrent` of `a/b` and `v1` at
-/// `docker/registry/v2/repositories/a/b/_manifests/tags/v1/current/link`. It fails only for want of memory, as all here.
+/// `docker/registry/v2/repositories/a/b/_manifests/tags/v1/current/link`.
+/// It fails only for want of memory, as all here.
 pub fn path_of(alloc: Global, place: &Place) -> Result<Path, NoMemory>
     ensures path { IfOk result (λ p. p ≡ place_path place.now) }
     ensures place { IsPlace place.now }

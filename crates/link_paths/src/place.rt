@@ -1,7 +1,8 @@
 //! What lies in a registry's storage.
 use reg_names::{Digest, Name, Tag, UploadId};
 
-/// Where a file of a registry lies. In the examples `2cf2..9824` stands for the 64 digits of a digest.
+/// Where a file of a registry lies. In the examples `2cf2..9824` stands for the 64 digits of a
+/// digest and `0f8f..950e` for the 36 characters of an upload's id.
 #[derive(Debug, Drop, PartialEq, Eq)]
 pub enum Place {
     /// The bytes of a blob:
@@ -20,9 +21,9 @@ pub enum Place {
     /// `docker/registry/v2/repositories/a/b/_layers/sha256/2cf2..9824/link`.
     Layer(Name, Digest),
     /// The bytes of an upload so far:
-    /// `docker/registry/v2/repositories/a/b/_uploads/0f8fad5b-d9cb-469f-a165-70867728950e/data`.
+    /// `docker/registry/v2/repositories/a/b/_uploads/0f8f..950e/data`.
     UploadData(Name, UploadId),
     /// The moment at which an upload was started:
-    /// `docker/registry/v2/repositories/a/b/_uploads/0f8fad5b-d9cb-469f-a165-70867728950e/startedat`.
+    /// `docker/registry/v2/repositories/a/b/_uploads/0f8f..950e/startedat`.
     UploadStarted(Name, UploadId),
 }

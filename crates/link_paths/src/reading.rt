@@ -7,7 +7,7 @@ ghost use Rattle.reg_names.specs.Digests.{IsDigest};
 ghost use Rattle.depot_api.specs.Paths.{is_part, parts_of};
 ghost use Rattle.link_paths.specs.Places.{digits, place_path, IsPlace};
 ghost use Rattle.link_paths.specs.Folders.{digest_link, blob_file, inside, place_parts};
-ghost use Rattle.link_paths.specs.InnerParts.{IsPlaceOf, is_hidden, IsCutAtHidden};
+ghost use Rattle.link_paths.specs.InnerParts.{root, in_repositories, Follows, is_hidden, AreOpen, IsNameCut, ReadsInside};
 ghost use Rattle.reg_names.specs.Reading.{ReadsBack};
 
 use crate::Place;
@@ -83,7 +83,7 @@ fn is_hidden(part: &Part) -> bool
 
 // The parts before the first that begins with an underscore, and that one with what follows it.
 fn cut_at_hidden(parts: &[Part]) -> Option<(&[Part], &[Part])>
-    ensures { MatchOption result (list_any is_hidden parts.now ≡ false) (λ cut. IsCutAtHidden parts.now cut.0.now cut.1.now) }
+    ensures { MatchOption result (AreOpen parts.now) (λ c. IsNameCut parts.now c.0.now c.1.now) }
 {
     let end = parts.iter().position(is_hidden)?;
     Some(parts.split_at(end))
@@ -92,52 +92,35 @@ fn cut_at_hidden(parts: &[Part]) -> Option<(&[Part], &[Part])>
 // What lies in a repository.
 fn read_inside(alloc: Global, name: Name, parts: &[Part]) -> Result<Option<Place>, NoMemory>
     requires { IsName name }
-    ensures { IfOk result (ReadsBack (IsPlaceOf name) inside parts.now) }
+    ensures { ReadsInside name parts.now result }
 {
     let Some((folder, parts)) = parts.split_first() else {
         return Ok(None);
     };
     match folder.as_str() {
         "_manifests" => read_manifest_link(alloc, name, parts),
-        "_layers" => read_layer_link(alloc, name, parts),
+        "_layers" => {
+            Ok(read_digest_link(alloc, parts)?.map(|digest| Place::Layer(name, digest)))
+        }
         "_uploads" => read_upload_file(name, parts),
         _ => Ok(None),
-    }
-}
-
-// What lies in its folder of layers.
-fn read_layer_link(alloc: Global, name: Name, parts: &[Part]) -> Result<Option<Place>, NoMemory>
-    requires { IsName name }
-    ensures { IfOk result (ReadsBack (IsPlaceOf name) inside (codes "_layers" ∷ parts.now)) }
-{
-    match read_digest_link(alloc, parts)? {
-        Some(digest) => Ok(Some(Place::Layer(name, digest))),
-        None => Ok(None),
     }
 }
 
 // What lies in its folder of manifests.
 fn read_manifest_link(alloc: Global, name: Name, parts: &[Part]) -> Result<Option<Place>, NoMemory>
     requires { IsName name }
-    ensures { IfOk result (ReadsBack (IsPlaceOf name) inside (codes "_manifests" ∷ parts.now)) }
+    ensures { ReadsInside name (codes "_manifests" ∷ parts.now) result }
 {
     match parts {
-        [folder, parts @ ..] if is(folder, "revisions") => read_revision_link(alloc, name, parts),
+        [folder, link @ ..] if is(folder, "revisions") => {
+            Ok(read_digest_link(alloc, link)?.map(|digest| Place::Revision(name, digest)))
+        }
         [folder, tag, parts @ ..] if is(folder, "tags") => match Tag::read(alloc, tag.as_str())? {
             Some(tag) => read_tag_link(alloc, name, tag, parts),
             None => Ok(None),
         },
         _ => Ok(None),
-    }
-}
-
-fn read_revision_link(alloc: Global, name: Name, parts: &[Part]) -> Result<Option<Place>, NoMemory>
-    requires { IsName name }
-    ensures { IfOk result (ReadsBack (IsPlaceOf name) inside (codes "_manifests" ∷ codes "revisions" ∷ parts.now)) }
-{
-    match read_digest_link(alloc, parts)? {
-        Some(digest) => Ok(Some(Place::Revision(name, digest))),
-        None => Ok(None),
     }
 }
 
@@ -150,16 +133,15 @@ fn read_tag_link(
 ) -> Result<Option<Place>, NoMemory>
     requires name { IsName name }
     requires tag { IsTag tag }
-    ensures { IfOk result (ReadsBack (IsPlaceOf name) inside (codes "_manifests" ∷ codes "tags" ∷ tag ∷ parts.now)) }
+    ensures { ReadsInside name (codes "_manifests" ∷ codes "tags" ∷ tag ∷ parts.now) result }
 {
     match parts {
         [folder, file] if is(folder, "current") && is(file, "link") => {
             Ok(Some(Place::TagCurrent(name, tag)))
         }
-        [folder, parts @ ..] if is(folder, "index") => match read_digest_link(alloc, parts)? {
-            Some(digest) => Ok(Some(Place::TagIndex(name, tag, digest))),
-            None => Ok(None),
-        },
+        [folder, link @ ..] if is(folder, "index") => {
+            Ok(read_digest_link(alloc, link)?.map(|digest| Place::TagIndex(name, tag, digest)))
+        }
         _ => Ok(None),
     }
 }
@@ -167,7 +149,7 @@ fn read_tag_link(
 // What lies in its folder of uploads.
 fn read_upload_file(name: Name, parts: &[Part]) -> Result<Option<Place>, NoMemory>
     requires { IsName name }
-    ensures { IfOk result (ReadsBack (IsPlaceOf name) inside (codes "_uploads" ∷ parts.now)) }
+    ensures { ReadsInside name (codes "_uploads" ∷ parts.now) result }
 {
     let [id, file] = parts else {
         return Ok(None);
@@ -185,7 +167,7 @@ fn read_upload_file(name: Name, parts: &[Part]) -> Result<Option<Place>, NoMemor
 // What lies in one of the repositories.
 fn read_in_repositories(alloc: Global, parts: &[Part]) -> Result<Option<Place>, NoMemory>
     requires { IsTrue (list_all is_part parts.now) }
-    ensures { IfOk result (ReadsBack IsPlace place_parts (codes "docker" ∷ codes "registry" ∷ codes "v2" ∷ codes "repositories" ∷ parts.now)) }
+    ensures { IfOk result (ReadsBack IsPlace place_parts (in_repositories parts.now)) }
 {
     let Some((name, parts)) = cut_at_hidden(parts) else {
         return Ok(None);
@@ -205,10 +187,7 @@ fn read_parts(alloc: Global, parts: &[Part]) -> Result<Option<Place>, NoMemory>
         return Ok(None);
     };
     match folder.as_str() {
-        "blobs" => match read_blob(alloc, parts)? {
-            Some(digest) => Ok(Some(Place::BlobData(digest))),
-            None => Ok(None),
-        },
+        "blobs" => Ok(read_blob(alloc, parts)?.map(Place::BlobData)),
         "repositories" => read_in_repositories(alloc, parts),
         _ => Ok(None),
     }
@@ -216,7 +195,7 @@ fn read_parts(alloc: Global, parts: &[Part]) -> Result<Option<Place>, NoMemory>
 
 // What follows the folder of all that a registry keeps.
 fn below_root(parts: &[Part]) -> Option<&[Part]>
-    ensures { MatchOption result ((rest : List (List ℕ)) → parts.now ≢ codes "docker" ∷ codes "registry" ∷ codes "v2" ∷ rest) (λ rest. parts.now ≡ codes "docker" ∷ codes "registry" ∷ codes "v2" ∷ rest.now) }
+    ensures { Follows result (λ rest. rest.now) root parts.now }
 {
     match parts {
         [first, second, third, rest @ ..]
@@ -225,9 +204,10 @@ fn below_root(parts: &[Part]) -> Option<&[Part]>
     }
 }
 
-/// The place that lies at a path, and `None` exactly where none does. It fails only for want of memory.
-/// `docker/registry/v2/repositories/a/b/_manifests/tags/v1/current/link` is `Place::TagCurrent` of `a/b` and `v1`, and
-/// `docker/registry/v2/repositories/a/b/_manifests/tags/v1/current` is no place.
+/// The place that lies at a path, and `None` exactly where none does:
+/// `docker/registry/v2/repositories/a/b/_manifests/tags/v1/current/link` is `Place::TagCurrent` of
+/// `a/b` and `v1`, and `docker/registry/v2/repositories/a/b/_manifests/tags/v1/current` is no place.
+/// It fails only for want of memory.
 pub fn read_path(alloc: Global, path: &Path) -> Result<Option<Place>, NoMemory>
     ensures { IfOk result (ReadsBack IsPlace place_path path.now) }
 {
