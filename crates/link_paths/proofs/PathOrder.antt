@@ -1,14 +1,12 @@
 -- The order of the paths below one folder.
-use Rattle.std.proofs.Common.{◌≡◌, ℕ, suc, ◌+◌, ◌<◌, ◌/◌, ◌%◌, ◌==◌, true, cond, List, [], ◌∷◌, ◌++◌, codes, IsTrue, Ordering, Less, Equal, Greater, refl, sym, ap, ◌∙◌, arith}
-use Rattle.std.specs.Prelude.{slice_index, nat_lt}
+use Rattle.std.proofs.Common.{◌≡◌, ℕ, List, [], ◌∷◌, ◌++◌, codes, drop, IsTrue, true, Ordering, Less, Equal, Greater, refl, ap, ◌∙◌, arith}
 use Rattle.std.specs.Ordering.{is_lt, nat_cmp, ordering_then}
 use Rattle.std.specs.Cmp.Lexicographic.{slice_cmp}
-use Rattle.std.proofs.lemmas.Bool.{agree_below_at, eqb-true}
 use Rattle.std.proofs.lemmas.Bool.Decides.{nat_tests}
-use Rattle.hex.specs.Hex.{encode_lower, encode_with, lower_digits}
 use Rattle.reg_names.specs.Names.{IsName}
 use Rattle.reg_names.specs.Tags.{IsTag}
-use Rattle.reg_names.specs.Digests.{AreBytes, IsDigest}
+use Rattle.reg_names.specs.Digests.{IsDigest}
+use Rattle.reg_names.proofs.TextOrder.{Small, small-from, encode-cmp, raws-cmp}
 use Rattle.depot_api.specs.Paths.{is_below}
 use Rattle.link_paths.specs.Places.{digits, revision_path, tag_path, layer_path}
 use Rattle.link_paths.specs.Folders.{tags_folder, revisions_folder, layers_folder, digest_link}
@@ -37,11 +35,6 @@ then_Equal Less = refl
 then_Equal Equal = refl
 then_Equal Greater = refl
 
-then_assoc : (a b c : Ordering) → ordering_then (ordering_then a b) c ≡ ordering_then a (ordering_then b c)
-then_assoc Less b c = refl
-then_assoc Equal b c = refl
-then_assoc Greater b c = refl
-
 pub in_order : (folder : List (List ℕ)) (t u : List ℕ) (x y : List (List ℕ)) → IsTrue (is_lt (slice_cmp nat_cmp t u)) → IsTrue (is_below (folder ++ t ∷ x) (folder ++ u ∷ y))
 in_order folder t u x y h = ap is_lt (under_folder folder (t ∷ x) (u ∷ y)) ∙ then_Less (slice_cmp nat_cmp t u) (slice_cmp (slice_cmp nat_cmp) x y) h
 
@@ -53,31 +46,13 @@ same_file folder t u x h =
 pub tags_in_order : (name t u : List ℕ) → IsName name → IsTag t → IsTag u → is_below (tag_path name t) (tag_path name u) ≡ is_lt (slice_cmp nat_cmp t u)
 tags_in_order name t u n ht hu = rw (tag_begins name t n ht, tag_begins name u n hu) (same_file (tags_folder name) t u (codes "current" ∷ codes "link" ∷ []) refl)
 
--- ---- digits are in the order of their bytes
-
-digit_is : (k : ℕ) → k < 16 → slice_index lower_digits k ≡ cond (nat_lt k 10) (48 + k) (87 + k)
-digit_is k below = eqb-true _ _ (agree_below_at (λ d. slice_index lower_digits d == cond (nat_lt d 10) (48 + d) (87 + d)) (λ _. true) 16 k refl below)
-
-digit_order : (j k : ℕ) → j < 16 → k < 16 → nat_cmp (slice_index lower_digits j) (slice_index lower_digits k) ≡ nat_cmp j k
-digit_order j k hj hk = rw (digit_is j hj, digit_is k hk) (grind (arith, nat_tests))
-
-byte_order : (x y : ℕ) → ordering_then (nat_cmp (x / 16) (y / 16)) (nat_cmp (x % 16) (y % 16)) ≡ nat_cmp x y
-byte_order x y = grind (arith, nat_tests)
-
-encoded_order : (xs ys : List ℕ) → AreBytes xs → AreBytes ys → slice_cmp nat_cmp (encode_lower xs) (encode_lower ys) ≡ slice_cmp nat_cmp xs ys
-unfolding encode_with
-encoded_order [] [] h k = refl
-encoded_order [] (y ∷ ys) h k = refl
-encoded_order (x ∷ xs) [] h k = refl
-encoded_order (x ∷ xs) (y ∷ ys) h k =
-    let hx : x < 256 = h 0 in
-    let hy : y < 256 = k 0 in
-    let rest = encoded_order xs ys (λ i. h (suc i)) (λ i. k (suc i)) in
-    rw (digit_order (x / 16) (y / 16) (omega arith) (omega arith), digit_order (x % 16) (y % 16) (omega arith) (omega arith), rest)
-    (sym (then_assoc (nat_cmp (x / 16) (y / 16)) (nat_cmp (x % 16) (y % 16)) (slice_cmp nat_cmp xs ys)) ∙ ap (λ o. ordering_then o (slice_cmp nat_cmp xs ys)) (byte_order x y))
+-- ---- links that are named by their digests
 
 digits_order : (d e : List ℕ) → IsDigest d → IsDigest e → slice_cmp nat_cmp (digits d) (digits e) ≡ slice_cmp nat_cmp d e
-digits_order d e h k = rw (h.is, k.is) (encoded_order h.raw k.raw h.bytes k.bytes)
+digits_order d e h k = encode-cmp (drop 1 d) (drop 1 e) (small d h) (small e k) ∙ raws-cmp d e h k
+  where
+    small : (x : List ℕ) → IsDigest x → Small (drop 1 x)
+    small x h = rw h.is (small-from h.raw h.bytes)
 
 links_in_order : (folder : List (List ℕ)) (d e : List ℕ) → IsDigest d → IsDigest e → is_below (folder ++ digest_link d) (folder ++ digest_link e) ≡ is_lt (slice_cmp nat_cmp d e)
 links_in_order folder d e h k =
