@@ -1,8 +1,9 @@
 -- Reading the place of a path: what each step shows.
-use Rattle.std.proofs.Common.{◌≡◌, ◌≢◌, ℕ, suc, ◌+◌, not, Bool, true, false, cond, List, [], ◌∷◌, ◌++◌, length, take, drop, Option, Some, None, Result, Ok, Err, IfOk, MatchOption, refl, sym, inl, inr, ap, ◌∙◌, subst, arith}
-use Rattle.std.specs.Prelude.{nat_lt}
-use Rattle.std.specs.List.{list_all, position, position_or_len}
-use Rattle.std.proofs.lemmas.Bool.{and_from, le-leb, lt-ltb, le-ltb, cases_lt, false≢true}
+use Rattle.std.proofs.Common.{◌≡◌, ◌≢◌, ℕ, zero, suc, ◌<◌, true, false, List, [], ◌∷◌, ◌++◌, length, take, drop, Option, Some, None, Result, Ok, Err, IfOk, MatchOption, refl, sym, ap, ◌∙◌, subst, arith}
+use Rattle.std.specs.List.{list_all, HoldsAt, AllWithin}
+use Rattle.std.proofs.lemmas.Bool.{and_from, le-leb, false≢true}
+use Rattle.std.proofs.lemmas.List.Folds.{list_any_none}
+use Rattle.std.proofs.lemmas.List.Elements.{All-from_all_within}
 use Rattle.reg_names.specs.Names.{IsName}
 use Rattle.reg_names.specs.Reading.{ReadsExactly}
 use Rattle.depot_api.specs.Paths.{parts_of, path_text, is_part, IsPath}
@@ -19,49 +20,23 @@ use Rattle.link_paths.proofs.PlaceParts.{parts_of_place}
 
 -- ---- the cut at the first hidden part
 
-abbrev CutAt : List (List ℕ) → ℕ → Type 0
-CutAt parts n = IsNameCut parts (take n parts) (drop n parts)
+abbrev pub IsHidden : List ℕ → Type 0
+IsHidden part = is_hidden part ≡ true
 
-cut_head : (p : List ℕ) (parts : List (List ℕ)) → is_hidden p ≡ true → CutAt (p ∷ parts) 0
-cut_head p parts h = record { is = refl; open_name = refl; below = record { first = p; more = parts; is = refl; hidden = h } }
+abbrev pub IsOpen : List ℕ → Type 0
+IsOpen part = is_hidden part ≡ false
 
-cut_later : (p : List ℕ) (parts : List (List ℕ)) (n : ℕ) → is_hidden p ≡ false → CutAt parts n → CutAt (p ∷ parts) (suc n)
-cut_later p parts n h cut = record { is = ap (λ ps. p ∷ ps) cut.is; open_name = rw (h, cut.open_name) refl; below = cut.below }
+cut_at : (parts : List (List ℕ)) (n : ℕ) → n < length parts → HoldsAt IsHidden parts n → AllWithin IsOpen parts 0 n → IsNameCut parts (take n parts) (drop n parts)
+cut_at [] n some here before = absurd (omega (arith, some))
+cut_at (p ∷ parts) zero some here before = record { is = refl; open_name = refl; below = record { first = p; more = parts; is = refl; hidden = here [] } }
+cut_at (p ∷ parts) (suc n) some here before =
+    let cut = cut_at parts n (omega (arith, some)) (λ d. here d) (λ k d low below. before (suc k) d (omega arith) (omega (arith, below))) in
+    let open_first : is_hidden p ≡ false = before 0 [] (omega arith) (omega arith) in
+    record { is = ap (λ ps. p ∷ ps) cut.is; open_name = rw (open_first, cut.open_name) refl; below = cut.below }
 
-ltb-suc : (k n : ℕ) → nat_lt (suc k) (suc n) ≡ nat_lt k n
-ltb-suc k n = elim (cases_lt k n) [
-  | inl below ↦ lt-ltb (suc k) (suc n) (omega (arith, below)) ∙ sym (lt-ltb k n below)
-  | inr above ↦ le-ltb (suc k) (suc n) (omega (arith, above)) ∙ sym (le-ltb k n above)
-]
-
-abbrev CutFrom : List (List ℕ) → Option ℕ → Type 0
-CutFrom parts r = MatchOption r (AreOpen parts) (CutAt parts)
-
-cut_more : (p : List ℕ) (parts : List (List ℕ)) (k : ℕ) (b : Bool) → is_hidden p ≡ false → CutFrom parts (cond b (Some k) None) → CutFrom (p ∷ parts) (cond b (Some (suc k)) None)
-cut_more p parts k true h cut = cut_later p parts k h cut
-cut_more p parts k false h cut = rw (h, cut) refl
-
--- where it stands, as the first part is hidden or not
-abbrev position_at : Bool → ℕ → ℕ → Option ℕ
-position_at b k n = cond (nat_lt (cond (not b) (1 + k) 0) (suc n)) (Some (cond (not b) (1 + k) 0)) None
-
-position_later : (b : Bool) (k n : ℕ) → b ≡ false → position_at b k n ≡ cond (nat_lt k n) (Some (suc k)) None
-position_later true k n h = cc h
-position_later false k n h =
-    let more : 1 + k ≡ suc k = omega arith in
-    rw more (ap (λ t. cond t (Some (suc k)) None) (ltb-suc k n))
-
-position_now : (b : Bool) (k n : ℕ) → b ≡ true → position_at b k n ≡ Some 0
-position_now true k n h = ap (λ t. cond t (Some 0) None) (lt-ltb 0 (suc n) (omega arith))
-position_now false k n h = cc h
-
-cut_first : (p : List ℕ) (parts : List (List ℕ)) (b : Bool) → is_hidden p ≡ b → CutFrom parts (position is_hidden parts) → CutFrom (p ∷ parts) (position_at (is_hidden p) (position_or_len is_hidden parts) (length parts))
-cut_first p parts true h cut = subst (CutFrom (p ∷ parts)) (sym (position_now (is_hidden p) (position_or_len is_hidden parts) (length parts) h)) (cut_head p parts h)
-cut_first p parts false h cut = subst (CutFrom (p ∷ parts)) (sym (position_later (is_hidden p) (position_or_len is_hidden parts) (length parts) h)) (cut_more p parts (position_or_len is_hidden parts) _ h cut)
-
-pub cut_position : (parts : List (List ℕ)) → CutFrom parts (position is_hidden parts)
-cut_position [] = refl
-cut_position (p ∷ parts) = cut_first p parts (is_hidden p) refl (cut_position parts)
+pub cut_first : (parts : List (List ℕ)) (r : Option ℕ) → MatchOption r (AllWithin IsOpen parts 0 (length parts)) (λ n. (n < length parts) × HoldsAt IsHidden parts n × AllWithin IsOpen parts 0 n) → MatchOption r (AreOpen parts) (λ n. IsNameCut parts (take n parts) (drop n parts))
+cut_first parts (Some n) h = cut_at parts n h.0 h.1 h.2
+cut_first parts None h = list_any_none is_hidden parts (All-from_all_within IsOpen parts h)
 
 -- ---- the name of components
 
