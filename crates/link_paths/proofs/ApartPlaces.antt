@@ -1,8 +1,8 @@
 -- No two places have one path.
-use Rattle.std.proofs.Common.{◌≡◌, ℕ, List, [], ◌++◌, get_or, drop, Option, Some, None, codes, nat_eq, if◌then◌else◌, refl, sym, ap, ◌∙◌, subst, arith}
+use Rattle.std.proofs.Common.{◌≡◌, ℕ, List, [], ◌++◌, get_or, drop, Option, Some, None, codes, nat_eq, if◌then◌else◌, refl, sym, ap, ◌∙◌, arith}
 use Rattle.std.specs.Prelude.{slice_index, unwrap_or}
 use Rattle.std.specs.Cmp.Lexicographic.{pointwise}
-use Rattle.reg_names.specs.Digests.{IsDigest, digest_text, digest_named}
+use Rattle.reg_names.specs.Digests.{IsDigest, digest_named}
 use Rattle.reg_names.specs.UploadIds.{IsUploadId, upload_id_text, upload_id_named}
 use Rattle.reg_names.proofs.DigestTexts.{digest_named-text}
 use Rattle.reg_names.proofs.UploadIdTexts.{named-text}
@@ -15,6 +15,7 @@ use Rattle.reg_names.specs.Reading.{ReadsBack}
 use Rattle.link_paths.proofs.Parts.{same_text}
 use Rattle.link_paths.proofs.NameParts.{name_is_open}
 use Rattle.link_paths.proofs.HiddenParts.{inside_is_below, repository_name, found}
+use Rattle.link_paths.proofs.KeyParts.{digest_text-digits}
 use Rattle.link_paths.proofs.PlaceParts.{parts_of_place}
 
 -- ---- a place is known by its repository and what follows
@@ -27,9 +28,7 @@ id_back text = unwrap_or (upload_id_named text) []
 
 digest_is : (d : List ℕ) → IsDigest d → digest_back (digits d) ≡ d
 unfolding digest_back
-digest_is d h =
-    let spelled : codes "sha256:" ++ digits d ≡ digest_text d = subst (λ x. codes "sha256:" ++ digits x ≡ digest_text x) (sym h.is) refl in
-    ap (λ t. unwrap_or (digest_named t) []) spelled ∙ ap (λ o. unwrap_or o []) (digest_named-text d h)
+digest_is d h = ap (λ t. unwrap_or (digest_named t) []) (sym (digest_text-digits d h)) ∙ ap (λ o. unwrap_or o []) (digest_named-text d h)
 
 id_is : (id : List ℕ) → IsUploadId id → id_back (upload_id_text id) ≡ id
 unfolding id_back

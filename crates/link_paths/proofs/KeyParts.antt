@@ -1,5 +1,5 @@
 -- A tag, the digits of a digest and the text of an upload's id are one part of a path each.
-use Rattle.std.proofs.Common.{◌≡◌, ℕ, zero, suc, ◌<◌, ◌≤◌, ◌*◌, ◌/◌, ◌%◌, ◌&&◌, ◌==◌, true, not, List, [], ◌∷◌, ◌++◌, length, nat_le, take, drop, refl, ◌∙◌, arith, length-append}
+use Rattle.std.proofs.Common.{ap, sym, codes, Option, Some, None, ◌≡◌, ℕ, zero, suc, ◌<◌, ◌≤◌, ◌*◌, ◌/◌, ◌%◌, ◌&&◌, ◌==◌, true, not, List, [], ◌∷◌, ◌++◌, length, nat_le, take, drop, refl, ◌∙◌, arith, length-append}
 use Rattle.std.specs.Prelude.{slice_index}
 use Rattle.std.specs.List.{list_all}
 use Rattle.std.proofs.lemmas.Bool.{and_parts, and_from, agree_below_at, leb-true, false≢true}
@@ -9,7 +9,8 @@ use Rattle.std.proofs.lemmas.List.Folds.{list_all-append}
 use Rattle.hex.specs.Hex.{encode_lower, encode_with, lower_digits}
 use Rattle.hex.proofs.HexLemmas.{length-encode_with}
 use Rattle.reg_names.specs.Tags.{is_word, is_tag_byte, IsTag}
-use Rattle.reg_names.specs.Digests.{AreBytes, IsDigest}
+use Rattle.reg_names.specs.Digests.{AreBytes, IsDigest, digest_text}
+use Rattle.reg_names.specs.Reading.{ReadsBack}
 use Rattle.reg_names.specs.UploadIds.{IsUploadId, upload_id_text}
 use Rattle.depot_api.specs.Paths.{is_part_byte}
 use Rattle.link_paths.specs.Places.{digits}
@@ -83,6 +84,14 @@ length-digits_of bytes = omega (arith, length-encode_with lower_digits bytes)
 
 pub length-digits : (digest : List ℕ) → IsDigest digest → length (digits digest) ≡ 64
 length-digits digest h = rw h.is (omega (arith, length-digits_of h.raw, h.long))
+
+pub digest_text-digits : (digest : List ℕ) → IsDigest digest → digest_text digest ≡ codes "sha256:" ++ digits digest
+digest_text-digits digest h = rw h.is refl
+
+-- the digits are known by the text
+pub digits_read : (text : List ℕ) (found : Option (List ℕ)) → ReadsBack IsDigest digest_text (codes "sha256:" ++ text) found → ReadsBack IsDigest digits text found
+digits_read text (Some digest) read = (read.0, ap (drop 7) (sym (digest_text-digits digest read.0) ∙ read.1))
+digits_read text None read = λ digest h is. read digest h (digest_text-digits digest h ∙ ap (λ t. codes "sha256:" ++ t) is)
 
 -- the digits of some bytes, at least one
 bytes_spelled : (n : ℕ) (raw : List ℕ) → AreBytes raw → 1 ≤ length raw → 2 * length raw ≤ n → n ≤ 255 → Spells n (encode_lower raw) (encode_lower raw ∷ [])
