@@ -6,9 +6,12 @@ use std::alloc::Global;
 mod descriptor;
 mod digest;
 mod document;
+mod folders;
 mod kind;
 mod length;
 mod name;
+mod path;
+mod place;
 mod reference;
 mod sha256;
 mod stored;
@@ -22,9 +25,12 @@ pub fn answer(alloc: Global, kind: &str, text: &[u8]) -> Result<String, NoMemory
         "descriptor" => descriptor::answer(alloc, text),
         "digest" => yes_or_no(alloc, digest::is_digest(alloc, text)),
         "document" => document::answer(alloc, text),
+        "folders" => folders::answer(alloc, text),
         "kind" => kind::answer(alloc, text),
         "length" => length::answer(alloc, text),
         "name" => yes_or_no(alloc, name::is_name(alloc, text)),
+        "path" => path::answer(alloc, text),
+        "place" => place::answer(alloc, text),
         "reference" => reference::answer(alloc, text),
         "sha256" => sha256::answer(alloc, text),
         "stored" => stored::answer(alloc, text),
