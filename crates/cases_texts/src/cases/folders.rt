@@ -1,4 +1,4 @@
-//! `folders NAME`: the folders of a repository's tags, of its links to manifests and of its links to blobs.
+//! `folders NAME`: the folders of a repository's tags, of its links to manifests and of those to blobs.
 use crate::cases::told;
 use depot_api::Path;
 use link_paths::{layers_folder, revisions_folder, tags_folder};

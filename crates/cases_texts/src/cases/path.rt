@@ -1,4 +1,5 @@
-//! `path TEXT`: the parts of the path that the text is, each in brackets, which a copy gives back; `none` where it is none.
+//! `path TEXT`: the parts of the path that the text is, each in brackets, which a copy gives back;
+//! `none` where it is none.
 use crate::cases::told;
 use depot_api::Path;
 use reg_names::NoMemory;

@@ -1,4 +1,4 @@
-//! `place PATH`: what lies at the path, whose own path gives the text back, and `none` where nothing may lie there.
+//! `place PATH`: what lies at the path, whose own path gives the text back; `none` where nothing may.
 use crate::cases::{path, told};
 use link_paths::{Place, path_of, read_path};
 use reg_names::NoMemory;
