@@ -1,7 +1,7 @@
 //! `place PATH`: what lies at the path, whose own path gives the text back; `none` where nothing may.
 use crate::cases::{path, told};
 use link_paths::{Place, path_of, read_path};
-use reg_names::NoMemory;
+use reg_names::{Digest, NoMemory, UploadId};
 use std::alloc::Global;
 
 pub fn answer(alloc: Global, text: &[u8]) -> Result<String, NoMemory> {
@@ -24,44 +24,35 @@ fn at_path(alloc: Global, place: &Place, text: &[u8]) -> Result<String, NoMemory
 
 fn in_words(alloc: Global, place: &Place) -> Result<String, NoMemory> {
     match place {
-        Place::BlobData(digest) => line(alloc, "blob", &[digest.text(alloc)?.as_str()]),
-        Place::Revision(name, digest) => {
-            line(
-                alloc,
-                "revision",
-                &[name.as_str(), digest.text(alloc)?.as_str()],
-            )
-        }
-        Place::TagCurrent(name, tag) => line(alloc, "tag", &[name.as_str(), tag.as_str()]),
+        Place::BlobData(digest) => with_digest(alloc, &["blob"], digest),
+        Place::Revision(name, digest) => with_digest(alloc, &["revision", name.as_str()], digest),
+        Place::TagCurrent(name, tag) => joined(alloc, &["tag", name.as_str()], tag.as_str()),
         Place::TagIndex(name, tag, digest) => {
-            line(
-                alloc,
-                "index",
-                &[name.as_str(), tag.as_str(), digest.text(alloc)?.as_str()],
-            )
+            with_digest(alloc, &["index", name.as_str(), tag.as_str()], digest)
         }
-        Place::Layer(name, digest) => {
-            line(
-                alloc,
-                "layer",
-                &[name.as_str(), digest.text(alloc)?.as_str()],
-            )
-        }
-        Place::UploadData(name, id) => {
-            line(alloc, "upload", &[name.as_str(), id.text(alloc)?.as_str()])
-        }
-        Place::UploadStarted(name, id) => {
-            line(alloc, "start", &[name.as_str(), id.text(alloc)?.as_str()])
-        }
+        Place::Layer(name, digest) => with_digest(alloc, &["layer", name.as_str()], digest),
+        Place::UploadData(name, id) => with_id(alloc, &["upload", name.as_str()], id),
+        Place::UploadStarted(name, id) => with_id(alloc, &["start", name.as_str()], id),
     }
 }
 
-// A kind and what it is of, with spaces between them.
-fn line(alloc: Global, kind: &str, of: &[&str]) -> Result<String, NoMemory> {
-    let mut answer = told(alloc, kind)?;
-    for word in of {
-        answer.push_str(" ")?;
+fn with_digest(alloc: Global, words: &[&str], digest: &Digest) -> Result<String, NoMemory> {
+    let text = digest.text(alloc)?;
+    joined(alloc, words, text.as_str())
+}
+
+fn with_id(alloc: Global, words: &[&str], id: &UploadId) -> Result<String, NoMemory> {
+    let text = id.text(alloc)?;
+    joined(alloc, words, text.as_str())
+}
+
+// Words and a last one, with spaces between them.
+fn joined(alloc: Global, words: &[&str], last: &str) -> Result<String, NoMemory> {
+    let mut answer = String::new(alloc);
+    for word in words {
         answer.push_str(word)?;
+        answer.push_str(" ")?;
     }
+    answer.push_str(last)?;
     Ok(answer)
 }
