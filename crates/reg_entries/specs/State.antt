@@ -4,12 +4,12 @@
 use Rattle.std.specs.Prelude.{ℕ, Bool, false, ◌⊎◌, List, Option, None, IsSome, IsTrue}
 use Rattle.std.specs.Option.{option_map_or}
 use Rattle.reg_names.specs.Named.{has_digest}
-use Rattle.reg_entries.specs.declared.document.Document.{Document}
+use Rattle.reg_entries.specs.Documents.{KeptManifest}
 
 -- Each field is asked by a repository's name first, and answers nothing where the repository has no such thing.
 pub record State : Type 0 where
   -- what is kept of the manifest that the repository has under a digest
-  pub manifests : List ℕ → List ℕ → Option Document
+  pub manifests : List ℕ → List ℕ → Option KeptManifest
   -- how many bytes the blob of a digest has, which the repository links
   pub links : List ℕ → List ℕ → Option ℕ
   -- the digest that a tag of the repository points to
@@ -25,7 +25,7 @@ IsKnown state name =
     ((digest : List ℕ) × IsSome (state.manifests name digest)) ⊎ ((digest : List ℕ) × IsSome (state.links name digest))
 
 -- whether a manifest, where there is one, lists the child
-abbrev pub lists_child : List ℕ → Option Document → Bool
+abbrev pub lists_child : List ℕ → Option KeptManifest → Bool
 lists_child child manifest = option_map_or (λ m. has_digest child m.children) manifest false
 
 -- the repository has a manifest under the digest `parent`, which lists the child
