@@ -1,7 +1,6 @@
 pub mod Shortness
 pub mod MeaningLaws
 pub mod BrokenLaws
-pub mod BelowLaws
-pub mod PageLaws
 pub mod WalkLaws
+pub mod LinkLaws
 pub mod ListingLaws

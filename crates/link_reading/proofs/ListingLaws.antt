@@ -1,27 +1,26 @@
 -- What a walk through the links of a repository's tags tells of them.
-use Rattle.std.proofs.Common.{◌≡◌, ℕ, zero, suc, ◌≤◌, Bool, true, false, cond, List, [], ◌∷◌, ◌++◌, length, codes, Option, Some, None, refl, sym, ap, subst, ◌∙◌, true≢false, arith, length-append, nat_eq}
-use Rattle.std.specs.Prelude.{◌&&◌, IsTrue, IsSome, IfSome, is_some, option_and_then}
+use Rattle.std.proofs.Common.{◌≡◌, ℕ, zero, suc, ◌≤◌, Bool, true, false, List, [], ◌∷◌, ◌++◌, length, codes, Option, Some, None, refl, sym, ap, subst, ◌∙◌, true≢false, arith, length-append, nat_eq}
+use Rattle.std.specs.Prelude.{◌&&◌, IsTrue, IsSome, IfSome, is_some}
 use Rattle.std.specs.Option.{option_eq}
-use Rattle.reg_names.specs.Names.{IsName, is_name}
-use Rattle.reg_names.specs.Tags.{IsTag, is_tag}
-use Rattle.reg_names.specs.Digests.{IsDigest, digest_named}
+use Rattle.std.proofs.lemmas.Bool.{and_parts}
+use Rattle.reg_names.specs.Names.{IsName}
+use Rattle.reg_names.specs.Tags.{IsTag}
+use Rattle.reg_names.specs.Digests.{IsDigest}
 use Rattle.depot_api.specs.Files.{Files}
-use Rattle.depot_api.specs.Paths.{begins_with, is_below}
-use Rattle.depot_api.specs.Pages.{is_after, IsNext}
-use Rattle.depot_api.proofs.OrderLaws.{begins_with_from_prefix, is_below-trans}
-use Rattle.link_paths.specs.declared.place.Place.TheVariants.{TagCurrent}
+use Rattle.depot_api.specs.Paths.{is_below}
+use Rattle.depot_api.specs.Pages.{is_after}
 use Rattle.link_paths.specs.Places.{tag_path, tag_index_path}
-use Rattle.link_paths.specs.Folders.{tags_front, digest_link}
-use Rattle.link_paths.proofs.ApartPlaces.{same_place}
-use Rattle.link_paths.proofs.FrontPlaces.{tag_begins, tag_index_begins}
+use Rattle.link_paths.specs.Folders.{tags_folder, digest_link}
+use Rattle.link_paths.proofs.FolderPlaces.{tag_begins, tag_index_begins}
 use Rattle.link_paths.proofs.PathOrder.{in_order, tags_in_order}
 use Rattle.reg_entries.specs.State.{State}
 use Rattle.reg_entries.specs.Listing.{is_lesser, is_behind, IsNextTag, AreNextTags, last_of, IsListing}
 use Rattle.reg_entries.proofs.ListingLaws.{behind_all}
-use Rattle.link_reading.specs.Meaning.{Means, manifest_at, tag_at}
-use Rattle.link_reading.specs.Walks.{AreNext, Gives, Stands, NoTagAt, IsTagAt, LiesBefore}
-use Rattle.link_reading.proofs.MeaningLaws.{shut}
-use Rattle.link_reading.proofs.PageLaws.{passed_all, passed_before, stands_next}
+use Rattle.link_reading.specs.Meaning.{Means}
+use Rattle.link_reading.specs.InnerWalks.{IsFirst}
+use Rattle.link_reading.specs.InnerLinks.{tag_quest}
+use Rattle.link_reading.specs.InnerListing.{LiesBefore}
+use Rattle.link_reading.proofs.LinkLaws.{listed_by, tag_path_begins}
 
 -- ---- tags that follow each other
 
@@ -33,104 +32,67 @@ next_pushed : (state : State) (name : List ℕ) (last : Option (List ℕ)) (foun
 next_pushed state name last [] u chain next = (next, tt)
 next_pushed state name last (t ∷ ts) u chain next = (chain.0, next_pushed state name (Some t) ts u chain.1 next)
 
--- ---- a tag's link
-
-tag_alone : (name t u : List ℕ) → IsName name → IsTag t → IsTag u → tag_path name t ≡ tag_path name u → u ≡ t
-tag_alone name t u n h k e = cc (same_place (TagCurrent name t) (TagCurrent name u) (n, h) (n, k) e)
-
--- what means nothing where it is a tag means nothing
-of_tags : (files : Files) (name t : List ℕ) → (IsTag t → tag_at files name t ≡ None) → tag_at files name t ≡ None
-of_tags files name t h = by (is_tag t) refl
-  where
-    closed : {X : Type 0} (b c : Bool) (x : Option X) → c ≡ false → cond (b && c) x None ≡ None
-    closed true true x e = absurd (true≢false e)
-    closed true false x e = refl
-    closed false c x e = refl
-
-    by : (b : Bool) → is_tag t ≡ b → tag_at files name t ≡ None
-    by true e = h e
-    by false e = closed (is_name name) (is_tag t) _ e
-
-tag_absent : (files : Files) (name : List ℕ) (last : Option (List ℕ)) (q : List (List ℕ)) → files q ≡ None → NoTagAt (Means files) name last q
-tag_absent files name last q gone t k at behind =
-    shut (is_name name) (is_tag t) _ (λ n h. ap (λ f. option_and_then (λ digest. cond (is_some (manifest_at files name digest)) (Some digest) None) (option_and_then digest_named f)) (ap files at ∙ gone))
-
-below_tags : (name t : List ℕ) → IsName name → IsTag t → IsTrue (begins_with (tags_front name) (tag_path name t))
-below_tags name t n k = begins_with_from_prefix (tags_front name) (tag_path name t) (t ∷ codes "current" ∷ codes "link" ∷ [], tag_begins name t n k)
-
 -- the links of a greater tag lie above those of a tag
 pub above_links : (name tag digest greater : List ℕ) → IsName name → IsTag tag → IsDigest digest → IsTag greater → is_lesser tag greater ≡ true → is_below (tag_index_path name tag digest) (tag_path name greater) ≡ true
 above_links name tag digest greater n t d g h =
     rw (tag_index_begins name tag digest n t d, tag_begins name greater n g)
-    (in_order (tags_front name) tag greater (codes "index" ∷ digest_link digest) (codes "current" ∷ codes "link" ∷ []) h)
+    (in_order (tags_folder name) tag greater (codes "index" ∷ digest_link digest) (codes "current" ∷ codes "link" ∷ []) h)
 
--- the tag there is not behind the text
-pub not_behind : (files : Files) (name tag : List ℕ) (last : Option (List ℕ)) (path : List (List ℕ)) → IsName name → IsTag tag × (tag_path name tag ≡ path) → is_behind last tag ≡ false → NoTagAt (Means files) name last path
-not_behind files name tag last path n at e t k there behind =
-    absurd (true≢false (sym behind ∙ ap (is_behind last) (sym (tag_alone name t tag n k at.0 (there ∙ sym at.1))) ∙ e))
+means_nothing : (x : Option (List ℕ)) → ¬ IsSome x → x ≡ None
+means_nothing None h = refl
+means_nothing (Some v) h = absurd (h refl)
 
 -- ---- a walk
 
--- the walk stands at `after` and has found these tags, which follow each other from `last` on
-pub record HasListed (files : Files) (name : List ℕ) (last : Option (List ℕ)) (after : Option (List (List ℕ))) (left : List (List (List ℕ))) (found : List (List ℕ)) : Type 0 where
+-- the walk stands behind `after`, has found these tags, which follow each other from `last` on, and the next are above
+pub record HasListed (files : Files) (name : List ℕ) (last : Option (List ℕ)) (after : Option (List (List ℕ))) (found : List (List ℕ)) : Type 0 where
   pub chain : AreNextTags (Means files) name last found
-  pub stands : Stands files (tags_front name) (NoTagAt (Means files) name (last_of last found)) after left
+  pub before : LiesBefore name (last_of last found) after
   pub ahead : (t : List ℕ) → IsTag t → is_behind last t ≡ true → is_after after (tag_path name t) ≡ true → is_behind (last_of last found) t ≡ true
 
-pub lists_first : (files : Files) (name : List ℕ) (last : Option (List ℕ)) (after : Option (List (List ℕ))) (left : List (List (List ℕ))) → LiesBefore name last after → left ≡ [] → HasListed files name last after left []
-lists_first files name last after left before e = record {
-  chain = tt;
-  stands = record {
-    next = subst (AreNext files (tags_front name) after) (sym e) tt;
-    passed = λ q below behind t k at lies. absurd (true≢false (sym (before t k lies) ∙ ap (is_after after) at ∙ behind));
-  };
-  ahead = λ t k lies later. lies;
-}
+pub lists_first : (files : Files) (name : List ℕ) (last : Option (List ℕ)) (after : Option (List (List ℕ))) → LiesBefore name last after → HasListed files name last after []
+lists_first files name last after before = record { chain = tt; before = before; ahead = λ t k lies later. lies }
 
-after_trans : (after : Option (List (List ℕ))) (p q : List (List ℕ)) → is_after after p ≡ true → is_below p q ≡ true → is_after after q ≡ true
-after_trans None p q h k = refl
-after_trans (Some a) p q h k = is_below-trans a p q h k
-
-module _ (files : Files) (name : List ℕ) (last : Option (List ℕ)) (n : IsName name) (after : Option (List (List ℕ))) (left : List (List (List ℕ))) (found : List (List ℕ)) (s : HasListed files name last after left found) where
+module _ (files : Files) (name : List ℕ) (last : Option (List ℕ)) (after : Option (List (List ℕ))) (found : List (List ℕ)) (s : HasListed files name last after found) where
   abbrev bound : Option (List ℕ)
   bound = last_of last found
 
-  -- all was passed
-  pub lists_all : IsNext files (tags_front name) after None → IsNextTag (Means files) name bound None
-  lists_all ended t lies =
-      of_tags files name t (λ k. passed_all files (tags_front name) (NoTagAt (Means files) name bound) (tag_absent files name bound) after s.stands.passed ended (tag_path name t) (below_tags name t n k) t k refl lies)
+  -- what is behind the last that was found, and means something, is wanted
+  wanted : (t : List ℕ) → is_behind bound t ≡ true → IsSome ((Means files).tags name t) → is_behind last t && is_some ((Means files).tags name t) ≡ true
+  wanted t lies some = ap (λ b. b && is_some ((Means files).tags name t)) (behind_all (Means files) name last found t s.chain lies) ∙ some
 
-  module _ (p : List (List ℕ)) (rest : List (List (List ℕ))) (gives : Gives files (tags_front name) after rest (Some p)) where
-    -- a path was passed at which no tag is listed
-    pub lists_same : IsTagAt (Means files) name last p None → HasListed files name last (Some p) rest found
-    lists_same here = record {
-      chain = s.chain;
-      stands = stands_next files (tags_front name) (NoTagAt (Means files) name bound) (tag_absent files name bound) after p left rest s.stands gives (λ t k at lies. here t k at (behind_all (Means files) name last found t s.chain lies));
-      ahead = λ t k lies later. s.ahead t k lies (after_trans after p (tag_path name t) gives.0.0.0 later);
-    }
+  -- the walk has come to its end
+  pub lists_all : IsFirst (tag_quest name last) files (tags_folder name) after None → IsNextTag (Means files) name bound None
+  lists_all none t lies = means_nothing _ (λ some.
+      let is = wanted t lies some in
+      let at = listed_by files name last t is in
+      true≢false (sym is ∙ none t (s.before t at.1.0 lies, tag_path_begins name t at.0 at.1.0) tt at.1.1))
 
-    -- the tag at the path is the next
-    pub lists_next : (u : List ℕ) → IsTagAt (Means files) name last p (Some u) → IsNextTag (Means files) name bound (Some u)
-    lists_next u here = (
-      s.ahead u here.0 here.2 (ap (is_after after) here.1 ∙ gives.0.0.0),
-      here.3,
-      λ t lies less. of_tags files name t (λ k.
-          passed_before files (tags_front name) (NoTagAt (Means files) name bound) (tag_absent files name bound) after p s.stands.passed gives.0 (tag_path name t) (below_tags name t n k)
-          (ap (is_below (tag_path name t)) (sym here.1) ∙ tags_in_order name t u n k here.0 ∙ less) t k refl lies),
-    )
+  module _ (u : List ℕ) (first : IsFirst (tag_quest name last) files (tags_folder name) after (Some u)) where
+    parts : IsTrue (is_behind last u) × IsSome ((Means files).tags name u)
+    parts = and_parts (is_behind last u) _ first.1
+
+    -- the tag that it came to is the next
+    pub lists_next : IsNextTag (Means files) name bound (Some u)
+    lists_next =
+        let own = listed_by files name last u first.1 in (
+          s.ahead u own.1.0 parts.0 first.0.0,
+          parts.1,
+          λ t lies less. means_nothing _ (λ some.
+              let is = wanted t lies some in
+              let at = listed_by files name last t is in
+              let below = tags_in_order name t u at.0 at.1.0 own.1.0 ∙ less in
+              true≢false (sym is ∙ first.2 t (s.before t at.1.0 lies, tag_path_begins name t at.0 at.1.0) below at.1.1)),
+        )
 
     -- and it was found
-    pub lists_more : (u : List ℕ) → IsTagAt (Means files) name last p (Some u) → HasListed files name last (Some p) rest (found ++ u ∷ [])
-    lists_more u here =
-        let order = λ (t : List ℕ) (k : IsTag t). ap (λ q. is_below q (tag_path name t)) (sym here.1) ∙ tags_in_order name u t n here.0 k in
+    pub lists_more : HasListed files name last (Some (tag_path name u)) (found ++ u ∷ [])
+    lists_more =
+        let own = listed_by files name last u first.1 in
         record {
-          chain = next_pushed (Means files) name last found u s.chain (lists_next u here);
-          stands = record {
-            next = gives.1;
-            passed = λ q below behind t k at lies.
-                absurd (true≢false (sym (ap (λ l. is_behind l t) (sym (last_pushed last found u)) ∙ lies) ∙ sym (order t k) ∙ ap (is_below p) at ∙ behind));
-          };
-          ahead = λ t k lies later. ap (λ l. is_behind l t) (last_pushed last found u) ∙ sym (order t k) ∙ later;
+          chain = next_pushed (Means files) name last found u s.chain lists_next;
+          before = λ t k lies. tags_in_order name u t own.0 own.1.0 k ∙ sym (ap (λ l. is_behind l t) (last_pushed last found u)) ∙ lies;
+          ahead = λ t k lies later. ap (λ l. is_behind l t) (last_pushed last found u) ∙ sym (tags_in_order name u t own.0 own.1.0 k) ∙ later;
         }
 
 -- ---- listings

@@ -6,11 +6,11 @@ use Rattle.std.specs.Ordering.{is_eq}
 use Rattle.std.specs.Cmp.Lexicographic.{pointwise, same_text, nat_list_eq_equiv}
 use Rattle.std.proofs.lemmas.Cmp.{tied_itself}
 use Rattle.reg_names.specs.Names.{IsName, is_name}
-use Rattle.reg_names.specs.Tags.{is_tag}
+use Rattle.reg_names.specs.Tags.{IsTag, is_tag}
 use Rattle.reg_names.specs.Digests.{IsDigest, digest_text, digest_named}
 use Rattle.reg_names.proofs.DigestTexts.{digest_named-is, digest_named-text}
 use Rattle.manifest_doc.specs.declared.document.Doc.{Doc}
-use Rattle.manifest_doc.specs.OneDocument.{document_in}
+use Rattle.manifest_doc.specs.Stored.{stored_in}
 use Rattle.depot_api.specs.Files.{Files, with_at}
 use Rattle.depot_api.specs.Paths.{path_cmp, is_at}
 use Rattle.depot_api.proofs.OrderLaws.{path_same, equal_from, path_total}
@@ -18,9 +18,9 @@ use Rattle.link_paths.specs.declared.place.Place.{Place}
 use Rattle.link_paths.specs.declared.place.Place.TheVariants.{BlobData, Layer, Revision, TagCurrent}
 use Rattle.link_paths.specs.Places.{IsPlace, place_path, data_path, layer_path, revision_path, tag_path}
 use Rattle.link_paths.proofs.ApartPlaces.{same_place}
-use Rattle.reg_entries.specs.declared.document.Document.{Document}
+use Rattle.reg_entries.specs.Documents.{KeptManifest}
 use Rattle.reg_entries.specs.State.{empty}
-use Rattle.link_reading.specs.Meaning.{data_at, links_to, kept, manifest_in, link_at, manifest_at, tag_at, Means, IsLink}
+use Rattle.link_reading.specs.Meaning.{only_manifest, data_at, links_to, kept, manifest_in, link_at, manifest_at, target_at, Means, IsLink}
 
 -- ---- link files
 
@@ -52,24 +52,20 @@ found_there true (Some d) has digest h = at_test (has d) refl h where
 found_there true None has digest h = absurd (cc h)
 found_there false o has digest h = absurd (cc h)
 
-pub tag_there : (files : Files) (name tag digest : List ℕ) → tag_at files name tag ≡ Some digest → IsSome (manifest_at files name digest)
+pub tag_there : (files : Files) (name tag digest : List ℕ) → target_at files name tag ≡ Some digest → IsSome (manifest_at files name digest)
 tag_there files name tag digest h =
     found_there (is_name name && is_tag tag) (option_and_then digest_named (files (tag_path name tag))) (λ d. is_some (manifest_at files name d)) digest h
 
-kept_size : (size : ℕ) (o : Option Doc) (m : Document) → option_map (kept size) o ≡ Some m → size ≡ m.size
+kept_size : (size : ℕ) (o : Option Doc) (m : KeptManifest) → option_map (kept size) o ≡ Some m → size ≡ m.size
 kept_size size (Some doc) m h = let same : kept size doc ≡ m = cc h in ap (λ d. d.size) same
 kept_size size None m h = absurd (cc h)
 
-size_in : (b : Bool) (bytes : List ℕ) (m : Document) → cond b (option_map (kept (length bytes)) (document_in bytes)) None ≡ Some m → length bytes ≡ m.size
-size_in true bytes m h = kept_size (length bytes) (document_in bytes) m h
-size_in false bytes m h = absurd (cc h)
-
-size_of : (b : Bool) (digest : List ℕ) (o : Option (List ℕ)) (m : Document) → cond b (option_and_then (manifest_in digest) o) None ≡ Some m → option_map length o ≡ Some m.size
-size_of true digest (Some bytes) m h = ap Some (size_in _ bytes m h)
+size_of : (b : Bool) (digest : List ℕ) (o : Option (List ℕ)) (m : KeptManifest) → cond b (option_and_then (manifest_in digest) o) None ≡ Some m → option_map length o ≡ Some m.size
+size_of true digest (Some bytes) m h = ap Some (kept_size (length bytes) (stored_in digest bytes) m h)
 size_of true digest None m h = absurd (cc h)
 size_of false digest o m h = absurd (cc h)
 
-pub size_is : (files : Files) (name digest : List ℕ) (m : Document) → manifest_at files name digest ≡ Some m → option_map length (data_at files digest) ≡ Some m.size
+pub size_is : (files : Files) (name digest : List ℕ) (m : KeptManifest) → manifest_at files name digest ≡ Some m → option_map length (data_at files digest) ≡ Some m.size
 size_is files name digest m h = size_of _ digest (data_at files digest) m h
 
 -- ---- no link files
@@ -125,7 +121,7 @@ module _ (f g : Files) (same : (place : Place) → IsPlace place → f (place_pa
   same_targets name (Some digest) = ap (λ m. cond (is_some m) (Some digest) None) (same_manifest name digest)
   same_targets name None = refl
 
-  same_tag : (name tag : List ℕ) → tag_at f name tag ≡ tag_at g name tag
+  same_tag : (name tag : List ℕ) → target_at f name tag ≡ target_at g name tag
   same_tag name tag =
       alike (is_name name) _ _ _ _ (λ n. refl) (λ n t. same_targets name (option_and_then digest_named (f (tag_path name tag))) ∙ ap (λ file. option_and_then (λ digest. cond (is_some (manifest_at g name digest)) (Some digest) None) (option_and_then digest_named file)) (same (TagCurrent name tag) (n, t)))
 
@@ -140,7 +136,7 @@ pub change_nothing : (files : Files) (path : List (List ℕ)) (file : Option (Li
 change_nothing files path file other =
     same_meaning (with_at files path file) files (λ place is. elsewhere (is_at path (place_path place)) files path (place_path place) file refl (other place is))
 
--- ---- links that sleep
+-- ---- dangling links
 
 at_path : (files : Files) (path : List (List ℕ)) (file : Option (List ℕ)) → with_at files path file path ≡ file
 at_path files path file = ap (λ t. cond t file (files path)) (ap is_eq (tied_itself path_total path))
@@ -148,9 +144,9 @@ at_path files path file = ap (λ t. cond t file (files path)) (ap is_eq (tied_it
 pub linked : {X : Type 0} (file : Option (List ℕ)) (name digest : List ℕ) (x : Option X) → IsName name → links_to file digest ≡ true → cond (is_name name && links_to file digest) x None ≡ x
 linked file name digest x n l = ap (λ b. cond (b && links_to file digest) x None) n ∙ ap (λ b. cond b x None) l
 
-pub sleeps : (files : Files) (name digest bytes : List ℕ) → IsName name → IsDigest digest → files (layer_path name digest) ≡ Some (digest_text digest) → files (data_path digest) ≡ None
+pub dangles : (files : Files) (name digest bytes : List ℕ) → IsName name → IsDigest digest → files (layer_path name digest) ≡ Some (digest_text digest) → files (data_path digest) ≡ None
     → (link_at files name digest ≡ None) × (link_at (with_at files (data_path digest) (Some bytes)) name digest ≡ Some (length bytes))
-sleeps files name digest bytes n d link gone =
+dangles files name digest bytes n d link gone =
     let g = with_at files (data_path digest) (Some bytes) in
     let apart : layer_path name digest ≢ data_path digest = λ e. cc (same_place (Layer name digest) (BlobData digest) (n, d) d e) in
     let kept_link : g (layer_path name digest) ≡ Some (digest_text digest) = elsewhere (is_at (data_path digest) (layer_path name digest)) files (data_path digest) (layer_path name digest) (Some bytes) refl apart ∙ link in (
@@ -158,12 +154,59 @@ sleeps files name digest bytes n d link gone =
       linked (g (layer_path name digest)) name digest _ n (links_to-text _ digest d kept_link) ∙ ap (option_map length) (at_path files (data_path digest) (Some bytes)),
     )
 
-pub manifest_sleeps : (files : Files) (name digest bytes : List ℕ) → IsName name → IsDigest digest → files (revision_path name digest) ≡ Some (digest_text digest) → files (data_path digest) ≡ None
+pub manifest_dangles : (files : Files) (name digest bytes : List ℕ) → IsName name → IsDigest digest → files (revision_path name digest) ≡ Some (digest_text digest) → files (data_path digest) ≡ None
     → (manifest_at files name digest ≡ None) × (manifest_at (with_at files (data_path digest) (Some bytes)) name digest ≡ manifest_in digest bytes)
-manifest_sleeps files name digest bytes n d link gone =
+manifest_dangles files name digest bytes n d link gone =
     let g = with_at files (data_path digest) (Some bytes) in
     let apart : revision_path name digest ≢ data_path digest = λ e. cc (same_place (Revision name digest) (BlobData digest) (n, d) d e) in
     let kept_link : g (revision_path name digest) ≡ Some (digest_text digest) = elsewhere (is_at (data_path digest) (revision_path name digest)) files (data_path digest) (revision_path name digest) (Some bytes) refl apart ∙ link in (
       linked (files (revision_path name digest)) name digest _ n (links_to-text _ digest d link) ∙ ap (option_and_then (manifest_in digest)) gone,
       linked (g (revision_path name digest)) name digest _ n (links_to-text _ digest d kept_link) ∙ ap (option_and_then (manifest_in digest)) (at_path files (data_path digest) (Some bytes)),
     )
+
+-- ---- one data file
+
+only_moves : (f g : Files) (name other : List ℕ) → manifest_at f name other ≡ manifest_at g name other → (o : Option (List ℕ)) → option_and_then (only_manifest f name) o ≡ Some other → option_and_then (only_manifest g name) o ≡ Some other
+only_moves f g name other same None h = absurd (cc h)
+only_moves f g name other same (Some d) h = at_test (is_some (manifest_at f name d)) refl h where
+  at_test : (t : Bool) → is_some (manifest_at f name d) ≡ t → cond t (Some d) None ≡ Some other → only_manifest g name d ≡ Some other
+  at_test true e k =
+      let is : d ≡ other = cc k in
+      subst (λ x. only_manifest g name x ≡ Some other) (sym is) (ap (λ t. cond t (Some other) None) (ap is_some (sym same) ∙ subst (λ x. is_some (manifest_at f name x) ≡ true) is e))
+  at_test false e k = absurd (cc k)
+
+opens : {X : Type 0} (b c : Bool) (x y : Option X) (v : X) → (b ≡ true → c ≡ true → x ≡ Some v → y ≡ Some v) → cond (b && c) x None ≡ Some v → cond (b && c) y None ≡ Some v
+opens true true x y v h k = h refl refl k
+opens true false x y v h k = absurd (cc k)
+opens false c x y v h k = absurd (cc k)
+
+target_moves : (f g : Files) (name tag other : List ℕ) → (IsName name → IsTag tag → f (tag_path name tag) ≡ g (tag_path name tag)) → manifest_at f name other ≡ manifest_at g name other → target_at f name tag ≡ Some other → target_at g name tag ≡ Some other
+target_moves f g name tag other link same =
+    opens (is_name name) (is_tag tag) _ _ other (λ n t h. only_moves f g name other same _ (subst (λ file. option_and_then (only_manifest f name) (option_and_then digest_named file) ≡ Some other) (link n t) h))
+
+module _ (files : Files) (digest : List ℕ) (file : Option (List ℕ)) (d : IsDigest digest) where
+  abbrev changed : Files
+  changed = with_at files (data_path digest) file
+
+  spared : (place : Place) → IsPlace place → place_path place ≢ data_path digest → changed (place_path place) ≡ files (place_path place)
+  spared place is apart = elsewhere (is_at (data_path digest) (place_path place)) files (data_path digest) (place_path place) file refl apart
+
+  spared_data : (link : Option (List ℕ)) (other : List ℕ) → other ≢ digest → links_to link other ≡ true → data_at changed other ≡ data_at files other
+  spared_data link other apart l =
+      let o = (links_to-is link other l).0 in
+      spared (BlobData other) o (λ e. apart (cc (same_place (BlobData other) (BlobData digest) o d e)))
+
+  pub spared_link : (name other : List ℕ) → other ≢ digest → link_at changed name other ≡ link_at files name other
+  spared_link name other apart =
+      alike (is_name name) _ _ _ _ (λ n. same_links (changed (layer_path name other)) (files (layer_path name other)) other (λ o. spared (Layer name other) (n, o) (λ e. cc (same_place (Layer name other) (BlobData digest) (n, o) d e)))) (λ n l. ap (option_map length) (spared_data (files (layer_path name other)) other apart l))
+
+  pub spared_manifest : (name other : List ℕ) → other ≢ digest → manifest_at changed name other ≡ manifest_at files name other
+  spared_manifest name other apart =
+      alike (is_name name) _ _ _ _ (λ n. same_links (changed (revision_path name other)) (files (revision_path name other)) other (λ o. spared (Revision name other) (n, o) (λ e. cc (same_place (Revision name other) (BlobData digest) (n, o) d e)))) (λ n l. ap (option_and_then (manifest_in other)) (spared_data (files (revision_path name other)) other apart l))
+
+  pub spared_target : (name tag other : List ℕ) → other ≢ digest → (target_at changed name tag ≡ Some other) ↔ (target_at files name tag ≡ Some other)
+  spared_target name tag other apart =
+      let link = λ (n : IsName name) (t : IsTag tag). spared (TagCurrent name tag) (n, t) (λ e. cc (same_place (TagCurrent name tag) (BlobData digest) (n, t) d e)) in (
+        target_moves changed files name tag other link (spared_manifest name other apart),
+        target_moves files changed name tag other (λ n t. sym (link n t)) (sym (spared_manifest name other apart)),
+      )

@@ -1,32 +1,36 @@
--- What a call of the crate answers.
-use Rattle.std.specs.Prelude.{◌≡◌, ◌≤◌, ℕ, IsTrue, nat_le, if◌then◌else◌, List, length, Option, Some, None, option_and_then}
-use Rattle.link_reading.specs.declared.manifests.StoredManifest.{StoredManifest}
-use Rattle.reg_digest.specs.Hashing.{hashes_to}
-use Rattle.manifest_doc.specs.Documents.{IsDocument}
+-- What a call answers by the files.
+use Rattle.std.specs.Prelude.{◌≡◌, ℕ, Bool, true, false, List, length, Option, Some, None, IsTrue}
+use Rattle.std.specs.Ordering.{nat_cmp, is_lt}
+use Rattle.std.specs.Cmp.Lexicographic.{slice_cmp}
+use Rattle.manifest_doc.specs.declared.document.Doc.{Doc}
 use Rattle.depot_api.specs.Files.{Files}
-use Rattle.link_reading.specs.Meaning.{Means, kept, manifest_in, data_at}
+use Rattle.reg_entries.specs.State.{State, IsKnown, Lists}
+use Rattle.link_reading.specs.declared.manifests.StoredManifest.{StoredManifest}
+use Rattle.link_reading.specs.Meaning.{Means, kept, data_at}
 
--- a file that is there and has at most so many bytes
-abbrev pub short : ℕ → Option (List ℕ) → Option (List ℕ)
-short most file = option_and_then (λ bytes. if nat_le (length bytes) most then Some bytes else None) file
+-- the repository has a manifest under the digest, with this document and these bytes
+pub record HasManifest (files : Files) (name digest : List ℕ) (doc : Doc) (bytes : List ℕ) : Type 0 where
+  pub meant : (Means files).manifests name digest ≡ Some (kept (length bytes) doc)
+  pub stored : data_at files digest ≡ Some bytes
 
--- a genuine manifest: it has at most 4,194,304 bytes, which hash to its digest, and its document is theirs
-pub record IsGenuine (m : StoredManifest) : Type 0 where
-  pub short : length m.bytes ≤ 4194304
-  pub hashes : IsTrue (hashes_to m.digest m.bytes)
-  pub document : IsDocument m.bytes m.doc
+-- the document and the bytes of the manifest that the repository has under a digest, or that it has none
+abbrev pub FindsManifest : Files → List ℕ → List ℕ → Option (Doc × List ℕ) → Type 0
+FindsManifest files name digest (Some found) = HasManifest files name digest found.0 found.1
+FindsManifest files name digest None = (Means files).manifests name digest ≡ None
 
--- the manifest in a digest's data file, or that it holds none
-abbrev pub IsStored : List ℕ → Option (List ℕ) → Option StoredManifest → Type 0
-IsStored digest file (Some m) = (m.digest ≡ digest) × (file ≡ Some m.bytes) × (manifest_in digest m.bytes ≡ Some (kept (length m.bytes) m.doc))
-IsStored digest file None = option_and_then (manifest_in digest) file ≡ None
+-- the manifest that a tag of the repository points to, or that the tag means nothing
+abbrev pub FindsTagged : Files → List ℕ → List ℕ → Option StoredManifest → Type 0
+FindsTagged files name tag (Some m) = ((Means files).tags name tag ≡ Some m.digest) × HasManifest files name m.digest m.doc m.bytes
+FindsTagged files name tag None = (Means files).tags name tag ≡ None
 
--- the manifest that a repository has under a digest, with its bytes, or that it has none
-abbrev pub IsManifest : Files → List ℕ → List ℕ → Option StoredManifest → Type 0
-IsManifest files name digest (Some m) = (m.digest ≡ digest) × ((Means files).manifests name digest ≡ Some (kept (length m.bytes) m.doc)) × (data_at files digest ≡ Some m.bytes)
-IsManifest files name digest None = (Means files).manifests name digest ≡ None
+-- whether a repository is known
+abbrev pub Knows : State → List ℕ → Bool → Type 0
+Knows state name true = IsKnown state name
+Knows state name false = ¬ IsKnown state name
 
--- the manifest that a tag of a repository points to, or that the tag means nothing
-abbrev pub IsManifestByTag : Files → List ℕ → List ℕ → Option StoredManifest → Type 0
-IsManifestByTag files name tag (Some m) = ((Means files).tags name tag ≡ Some m.digest) × ((Means files).manifests name m.digest ≡ Some (kept (length m.bytes) m.doc)) × (data_at files m.digest ≡ Some m.bytes)
-IsManifestByTag files name tag None = (Means files).tags name tag ≡ None
+-- the least digest of a manifest of the repository that lists the child, or that none does
+abbrev pub IsLeastParent : State → List ℕ → List ℕ → Option (List ℕ) → Type 0
+IsLeastParent state name child (Some digest) =
+    Lists state name digest child
+    × ((other : List ℕ) → IsTrue (is_lt (slice_cmp nat_cmp other digest)) → ¬ Lists state name other child)
+IsLeastParent state name child None = (digest : List ℕ) → ¬ Lists state name digest child

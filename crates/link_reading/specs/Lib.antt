@@ -1,4 +1,7 @@
 pub mod Meaning
 pub mod Answers
-pub mod Below
-pub mod Walks
+pub mod InnerAnswers
+pub mod InnerWalks
+pub mod InnerSpots
+pub mod InnerLinks
+pub mod InnerListing

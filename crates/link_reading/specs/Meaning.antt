@@ -5,14 +5,13 @@ use Rattle.std.specs.Cmp.Lexicographic.{pointwise}
 use Rattle.reg_names.specs.Names.{is_name}
 use Rattle.reg_names.specs.Tags.{is_tag}
 use Rattle.reg_names.specs.Digests.{digest_named}
-use Rattle.reg_digest.specs.Hashing.{hashes_to}
 use Rattle.manifest_doc.specs.declared.document.Doc.{Doc}
-use Rattle.manifest_doc.specs.OneDocument.{document_in}
+use Rattle.manifest_doc.specs.Stored.{stored_in}
 use Rattle.depot_api.specs.Files.{Files}
 use Rattle.link_paths.specs.declared.place.Place.{Place}
 use Rattle.link_paths.specs.declared.place.Place.TheVariants.{Layer, Revision, TagCurrent, TagIndex}
 use Rattle.link_paths.specs.Places.{IsPlace, place_path, data_path, layer_path, revision_path, tag_path}
-use Rattle.reg_entries.specs.declared.document.Document.{Document}
+use Rattle.reg_entries.specs.Documents.{KeptManifest, kept_of}
 use Rattle.reg_entries.specs.State.{State}
 
 -- ---- what the tests read
@@ -26,30 +25,37 @@ abbrev pub links_to : Option (List ℕ) → List ℕ → Bool
 links_to file digest = option_map_or (pointwise nat_eq digest) (option_and_then digest_named file) false
 
 -- what is kept of a document with so many bytes
-abbrev pub kept : ℕ → Doc → Document
-kept size doc = record { kind = doc.kind; size = size; named = doc.named; children = doc.children }
+abbrev pub kept : ℕ → Doc → KeptManifest
+kept size doc = kept_of doc.kind size doc.named doc.children
 
--- the manifest that bytes are under a digest: they are no more than 4,194,304, hash to it, and are a document
-abbrev pub manifest_in : List ℕ → List ℕ → Option Document
-manifest_in digest bytes = if nat_le (length bytes) 4194304 && hashes_to digest bytes then option_map (kept (length bytes)) (document_in bytes) else None
+-- what is kept of the manifest that bytes are under a digest
+abbrev pub manifest_in : List ℕ → List ℕ → Option KeptManifest
+manifest_in digest bytes = option_map (kept (length bytes)) (stored_in digest bytes)
 
 -- ---- the three tests
 
 -- the size of a blob that a repository has: its link holds the digest's text, and the digest's data file is there
 abbrev pub link_at : Files → List ℕ → List ℕ → Option ℕ
-link_at files name digest = if is_name name && links_to (files (layer_path name digest)) digest then option_map length (data_at files digest) else None
+link_at files name digest =
+    if is_name name && links_to (files (layer_path name digest)) digest then option_map length (data_at files digest) else None
 
 -- the manifest that a repository has under a digest: its link holds the digest's text, and the data file is a manifest
-abbrev pub manifest_at : Files → List ℕ → List ℕ → Option Document
-manifest_at files name digest = if is_name name && links_to (files (revision_path name digest)) digest then option_and_then (manifest_in digest) (data_at files digest) else None
+abbrev pub manifest_at : Files → List ℕ → List ℕ → Option KeptManifest
+manifest_at files name digest =
+    if is_name name && links_to (files (revision_path name digest)) digest then option_and_then (manifest_in digest) (data_at files digest) else None
+
+-- a digest under which the repository has a manifest
+abbrev pub only_manifest : Files → List ℕ → List ℕ → Option (List ℕ)
+only_manifest files name digest = if is_some (manifest_at files name digest) then Some digest else None
 
 -- the digest that a tag points to: its link holds the text of a digest, under which the repository has a manifest
-abbrev pub tag_at : Files → List ℕ → List ℕ → Option (List ℕ)
-tag_at files name tag = if is_name name && is_tag tag then option_and_then (λ digest. if is_some (manifest_at files name digest) then Some digest else None) (option_and_then digest_named (files (tag_path name tag))) else None
+abbrev pub target_at : Files → List ℕ → List ℕ → Option (List ℕ)
+target_at files name tag =
+    if is_name name && is_tag tag then option_and_then (only_manifest files name) (option_and_then digest_named (files (tag_path name tag))) else None
 
 -- what the files mean
 abbrev pub Means : Files → State
-Means files = record { manifests = manifest_at files; links = link_at files; tags = tag_at files }
+Means files = record { manifests = manifest_at files; links = link_at files; tags = target_at files }
 
 -- ---- link files
 

@@ -1,7 +1,8 @@
 //! The blobs that a repository links.
-ghost use Rattle.std.specs.Prelude.{◌≡◌, IsTrue, IfOk, IsErrOf};
-ghost use Rattle.reg_names.specs.Cause.{HasCause};
-ghost use Rattle.reg_names.specs.declared.refused.Refused.TheVariants as refusals;
+ghost use Rattle.std.specs.Prelude.{◌≡◌};
+ghost use Rattle.reg_names.specs.Cause.{OnlyReads};
+ghost use Rattle.reg_names.specs.Refusals.{HasFailed};
+ghost use Rattle.depot_api.specs.Holdings.{Finds};
 ghost use Rattle.link_reading.specs.Meaning.{Means};
 
 use crate::links::is_linked;
@@ -18,10 +19,9 @@ pub fn has_layer<D: Depot>(
     name: &Name,
     digest: &Digest,
 ) -> Result<Option<u64>, Refused>
-    ensures value { IsTrue (D.tells depot.old) → IfOk result (λ size. size ≡ (Means (D.files depot.old)).links name.now digest.now) }
-    ensures files { D.files depot.new ≡ D.files depot.old }
-    ensures tells { D.tells depot.new ≡ D.tells depot.old }
-    ensures cause { HasCause (D.faults depot.old) (D.faults depot.new) (IsErrOf result refusals.Failed) }
+    ensures value { Finds (D.held depot.old) result (λ files size.
+        size ≡ (Means files).links name.now digest.now) }
+    ensures reads { OnlyReads D.held D.faults depot.old depot.new (HasFailed result) }
 {
     let at = layer_path(alloc, name, digest)?;
     if !is_linked(alloc, depot, &at, digest)? {

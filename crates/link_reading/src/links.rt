@@ -1,17 +1,18 @@
 //! Link files.
-ghost use Rattle.std.specs.Prelude.{◌≡◌, ◌≤◌, IsTrue, IfOk, IfSome, IsErrOf, length, option_and_then};
-ghost use Rattle.reg_names.specs.Cause.{HasCause};
+ghost use Rattle.std.specs.Prelude.{◌≡◌, ◌≤◌, length, option_and_then};
+ghost use Rattle.reg_names.specs.Cause.{OnlyReads};
 ghost use Rattle.reg_names.specs.Digests.{digest_named};
-ghost use Rattle.reg_names.specs.declared.refused.Refused.TheVariants as refusals;
+ghost use Rattle.reg_names.specs.Refusals.{HasFailed};
+ghost use Rattle.depot_api.specs.Holdings.{Finds, IfFound};
 ghost use Rattle.link_reading.specs.Meaning.{links_to};
-ghost use Rattle.link_reading.specs.Answers.{short};
+ghost use Rattle.link_reading.specs.InnerAnswers.{short};
 
 use depot_api::{Depot, Path, Small};
 use reg_names::{Bytes, Digest, Refused};
 use std::alloc::Global;
 
-/// The bytes of a digest's text.
-const DIGEST_TEXT_LEN: u64 = 71;
+/// The length of a digest's text, in bytes.
+const DIGEST_TEXT_LENGTH: u64 = 71;
 
 /// Whether a link file holds the digest's text.
 pub fn is_linked<D: Depot>(
@@ -20,10 +21,9 @@ pub fn is_linked<D: Depot>(
     at: &Path,
     digest: &Digest,
 ) -> Result<bool, Refused>
-    ensures value { IsTrue (D.tells depot.old) → IfOk result (λ linked. linked ≡ links_to (D.files depot.old at.now) digest.now) }
-    ensures files { D.files depot.new ≡ D.files depot.old }
-    ensures tells { D.tells depot.new ≡ D.tells depot.old }
-    ensures cause { HasCause (D.faults depot.old) (D.faults depot.new) (IsErrOf result refusals.Failed) }
+    ensures value { Finds (D.held depot.old) result (λ files linked.
+        linked ≡ links_to (files at.now) digest.now) }
+    ensures reads { OnlyReads D.held D.faults depot.old depot.new (HasFailed result) }
 {
     match named_digest(alloc, depot, at)? {
         Some(named) => Ok(*digest == named),
@@ -37,12 +37,11 @@ pub fn named_digest<D: Depot>(
     depot: &mut D,
     at: &Path,
 ) -> Result<Option<Digest>, Refused>
-    ensures value { IsTrue (D.tells depot.old) → IfOk result (λ named. named ≡ option_and_then digest_named (D.files depot.old at.now)) }
-    ensures files { D.files depot.new ≡ D.files depot.old }
-    ensures tells { D.tells depot.new ≡ D.tells depot.old }
-    ensures cause { HasCause (D.faults depot.old) (D.faults depot.new) (IsErrOf result refusals.Failed) }
+    ensures value { Finds (D.held depot.old) result (λ files named.
+        named ≡ option_and_then digest_named (files at.now)) }
+    ensures reads { OnlyReads D.held D.faults depot.old depot.new (HasFailed result) }
 {
-    match short_file(alloc, depot, at, DIGEST_TEXT_LEN)? {
+    match short_file(alloc, depot, at, DIGEST_TEXT_LENGTH)? {
         Some(bytes) => Ok(Digest::read_bytes(bytes.as_slice())),
         None => Ok(None),
     }
@@ -55,11 +54,9 @@ pub fn short_file<D: Depot>(
     at: &Path,
     most: u64,
 ) -> Result<Option<Bytes>, Refused>
-    ensures value { IsTrue (D.tells depot.old) → IfOk result (λ bytes. bytes ≡ short most (D.files depot.old at.now)) }
-    ensures most { IfOk result (λ found. IfSome found (λ bytes. length bytes ≤ most)) }
-    ensures files { D.files depot.new ≡ D.files depot.old }
-    ensures tells { D.tells depot.new ≡ D.tells depot.old }
-    ensures cause { HasCause (D.faults depot.old) (D.faults depot.new) (IsErrOf result refusals.Failed) }
+    ensures value { Finds (D.held depot.old) result (λ files bytes. bytes ≡ short most (files at.now)) }
+    ensures most { IfFound result (λ bytes. length bytes ≤ most) }
+    ensures reads { OnlyReads D.held D.faults depot.old depot.new (HasFailed result) }
 {
     match depot.read_small(alloc, at, most)? {
         Small::Content(bytes) => Ok(Some(bytes)),
