@@ -11,8 +11,8 @@ use Rattle.manifest_doc.specs.Stored.{manifest_limit, IsStoredManifest, stored_i
 use Rattle.manifest_doc.proofs.OneDocumentLaws.{computes, computed, not_computed}
 
 -- bytes that pass both tests and are a document
-pub stored_by_document : (digest bytes : List ℕ) (doc : Doc) → length bytes ≤ manifest_limit → hashes_to digest bytes ≡ true → IsDocument bytes doc → Some doc ≡ stored_in digest bytes
-stored_by_document digest bytes doc short hashes document =
+pub stored : (digest bytes : List ℕ) (doc : Doc) → length bytes ≤ manifest_limit → hashes_to digest bytes ≡ true → IsDocument bytes doc → Some doc ≡ stored_in digest bytes
+stored digest bytes doc short hashes document =
     let is_short : nat_le (length bytes) manifest_limit ≡ true = grind (arith, nat_tests) in
     rw (is_short, hashes) (sym (computes bytes doc document))
 
@@ -31,4 +31,4 @@ is_stored digest bytes doc e = at_tests _ _ refl refl e where
   at_tests false hashes s h e = absurd (cc e)
 
 pub stored_computed : (digest bytes : List ℕ) (doc : Doc) → (stored_in digest bytes ≡ Some doc) ↔ IsStoredManifest digest bytes doc
-stored_computed digest bytes doc = (is_stored digest bytes doc, λ h. sym (stored_by_document digest bytes doc h.short h.hashes h.document))
+stored_computed digest bytes doc = (is_stored digest bytes doc, λ h. sym (stored digest bytes doc h.short h.hashes h.document))

@@ -12,7 +12,7 @@ pub const MANIFEST_LIMIT: u64 = 4_194_304;
 
 /// The document of the manifest that bytes are under a digest, and `None` exactly where they are none: they are more
 /// than `MANIFEST_LIMIT`, hash to another digest, or are no document. Too many bytes are neither hashed nor parsed.
-#[tactic(auto, using(crate::proofs::StoredLaws::stored_by_document, crate::proofs::StoredLaws::not_stored))]
+#[tactic(auto, using(crate::proofs::StoredLaws::stored, crate::proofs::StoredLaws::not_stored))]
 pub fn read_stored(alloc: Global, digest: &Digest, bytes: &[u8]) -> Result<Option<Doc>, NoMemory>
     ensures { IfOk result (λ found. found ≡ stored_in digest.now bytes.now) }
 {

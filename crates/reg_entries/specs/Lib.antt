@@ -1,3 +1,4 @@
 pub mod Documents
+pub mod InnerDocuments
 pub mod State
 pub mod Listing

@@ -32,7 +32,9 @@ impl Model for Document {
 
     ghost invariant = { λ d. IsKept (kept_of d.kind d.size d.named d.children) };
 
-    ghost inverse = { λ m. record { kind = m.kind; size = m.size; named = m.named; children = m.children } };
+    ghost use Rattle.reg_entries.specs.InnerDocuments.{fields_of};
+
+    ghost inverse = { fields_of };
 }
 
 impl Document {

@@ -11,3 +11,4 @@ pub mod Reading
 pub mod InnerScans
 pub mod UploadIds
 pub mod References
+pub mod InnerOrders

@@ -81,15 +81,13 @@ impl<T: AsSlice<u8>> Ord for ByBytes<T> {
 }
 
 impl<T: AsSlice<u8>> PartialOrd for ByBytes<T> {
-    ghost use Rattle.std.proofs.Common.{rules};
     ghost use Rattle.std.specs.Ordering.{nat_cmp, as_partial_cmp};
-    ghost use Rattle.std.specs.Cmp.{partial_order_from_own_ties};
-    ghost use Rattle.std.specs.Cmp.Rules.{comparing};
     ghost use Rattle.std.specs.Cmp.Lexicographic.{slice_cmp};
+    ghost use Rattle.reg_names.specs.InnerOrders.{texts_partial_order};
 
     ghost partial_cmp = { as_partial_cmp (slice_cmp nat_cmp) };
 
-    ghost laws = { partial_order_from_own_ties (Prim.search (comparing, rules)) (Prim.search (comparing, rules)) };
+    ghost laws = { texts_partial_order };
 
     fn partial_cmp(&self, other: &ByBytes<T>) -> Option<Ordering> {
         Some(self.cmp(other))

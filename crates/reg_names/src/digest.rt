@@ -152,15 +152,13 @@ impl Ord for Digest {
 }
 
 impl PartialOrd for Digest {
-    ghost use Rattle.std.proofs.Common.{rules};
     ghost use Rattle.std.specs.Ordering.{nat_cmp, as_partial_cmp};
-    ghost use Rattle.std.specs.Cmp.{partial_order_from_own_ties};
-    ghost use Rattle.std.specs.Cmp.Rules.{comparing};
     ghost use Rattle.std.specs.Cmp.Lexicographic.{slice_cmp};
+    ghost use Rattle.reg_names.specs.InnerOrders.{texts_partial_order};
 
     ghost partial_cmp = { as_partial_cmp (slice_cmp nat_cmp) };
 
-    ghost laws = { partial_order_from_own_ties (Prim.search (comparing, rules)) (Prim.search (comparing, rules)) };
+    ghost laws = { texts_partial_order };
 
     fn partial_cmp(&self, other: &Digest) -> Option<Ordering> {
         Some(self.cmp(other))

@@ -114,16 +114,14 @@ impl Ord for Reference {
 }
 
 impl PartialOrd for Reference {
-    ghost use Rattle.std.proofs.Common.{rules};
     ghost use Rattle.std.specs.Ordering.{nat_cmp, on, as_partial_cmp};
-    ghost use Rattle.std.specs.Cmp.{partial_order_from_own_ties};
-    ghost use Rattle.std.specs.Cmp.Rules.{comparing};
     ghost use Rattle.std.specs.Cmp.Lexicographic.{slice_cmp};
+    ghost use Rattle.reg_names.specs.InnerOrders.{on_texts_partial_order};
     ghost use Rattle.reg_names.specs.References.{reference_text};
 
     ghost partial_cmp = { as_partial_cmp (on reference_text (slice_cmp nat_cmp)) };
 
-    ghost laws = { partial_order_from_own_ties (Prim.search (comparing, rules)) (Prim.search (comparing, rules)) };
+    ghost laws = { on_texts_partial_order reference_text };
 
     fn partial_cmp(&self, other: &Reference) -> Option<Ordering> {
         Some(self.cmp(other))
