@@ -1,2 +1,2 @@
-pub mod Absence
+pub mod InnerAbsence
 pub mod Silence

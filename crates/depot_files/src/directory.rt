@@ -1,13 +1,13 @@
 //! The directory.
-ghost use Rattle.std.specs.Prelude.{◌≡◌, ◌≤◌, ◌^◌, Ok, vec_len, IfOk, IfSome, IsErrOf, option_map, ⊤};
+ghost use Rattle.std.specs.Prelude.{◌≡◌, ◌≤◌, ◌^◌, length, Ok, vec_len, IfOk, IfSome, IsErrOf, option_map, ⊤};
 ghost use Rattle.reg_names.specs.Cause.{HasCause};
 ghost use Rattle.reg_names.specs.declared.refused.Refused.TheVariants as refusals;
 ghost use Rattle.depot_api.specs.Files.{IsUpTo};
 ghost use Rattle.depot_api.specs.Pages.{Ascends};
 
 use crate::blob::FileBlob;
+use crate::error::FileError;
 use crate::root::{Opened, Root};
-use crate::unread::Unread;
 use crate::walk::Walk;
 use depot_api::{Depot, Path, Small};
 use reg_names::{Bytes, Refused};
@@ -46,7 +46,7 @@ impl<R: Files + AllocGlobal> FileDepot<R> {
     }
 }
 
-impl<R: Files + AllocGlobal + Clone + Drop> Depot for FileDepot<R> {
+impl<R: Files + AllocGlobal + Drop> Depot for FileDepot<R> {
     type B = FileBlob<R::File>;
 
     ghost use Rattle.std.specs.Prelude.{false};
@@ -91,16 +91,16 @@ impl<R: Files + AllocGlobal + Clone + Drop> Depot for FileDepot<R> {
     }
 }
 
-impl<R: Files + AllocGlobal + Clone + Drop> FileDepot<R> {
+impl<R: Files + AllocGlobal + Drop> FileDepot<R> {
     // What was read, or the refusal. A fault is counted.
-    fn counted<T: Drop>(&mut self, read: Result<T, Unread>) -> Result<T, Refused>
+    fn counted<T: Drop>(&mut self, read: Result<T, FileError>) -> Result<T, Refused>
         ensures value { IfOk result (λ value. read ≡ Ok value) }
         ensures cause { HasCause self.old.faults self.new.faults (IsErrOf result refusals.Failed) }
     {
         match read {
             Ok(value) => Ok(value),
-            Err(Unread::NoMemory) => Err(Refused::NoMemory),
-            Err(Unread::Fault) => {
+            Err(FileError::NoMemory) => Err(Refused::NoMemory),
+            Err(FileError::Fault) => {
                 self.count_fault();
                 Err(Refused::Failed)
             }
@@ -113,49 +113,52 @@ impl<R: Files + AllocGlobal + Clone + Drop> FileDepot<R> {
         self.faults = self.faults.saturating_add(1);
     }
 
-    fn size_at(&self, alloc: Global, at: &Path) -> Result<Option<u64>, Unread>
-        ensures { IfOk result (λ found. IfSome found (λ size. size ≤ 2 ^ 62)) }
+    fn size_at(&mut self, alloc: Global, at: &Path) -> Result<Option<u64>, FileError>
+        ensures size { IfOk result (λ found. IfSome found (λ size. size ≤ 2 ^ 62)) }
+        ensures faults { self.new.faults ≡ self.old.faults }
     {
-        self.root.file_len(alloc, at.text(alloc)?.as_str())
+        self.root.file_len(alloc, at)
     }
 
-    fn small_at(&self, alloc: Global, at: &Path, most: u64) -> Result<Small, Unread>
-        ensures { IfOk result (IsUpTo most) }
+    fn small_at(&mut self, alloc: Global, at: &Path, most: u64) -> Result<Small, FileError>
+        ensures small { IfOk result (IsUpTo most) }
+        ensures faults { self.new.faults ≡ self.old.faults }
     {
-        match self.root.open_file(alloc, at.text(alloc)?.as_str())? {
+        match self.root.open_file(alloc, at)? {
             Some(Opened { length, .. }) if length > most => Ok(Small::TooLong),
-            Some(Opened { file, .. }) => read_up_to(alloc, file, most),
+            Some(Opened { file, length }) => Ok(Small::Content(read_whole(alloc, file, length)?)),
             None => Ok(Small::Absent),
         }
     }
 
-    fn blob_at(&self, alloc: Global, at: &Path) -> Result<Option<FileBlob<R::File>>, Unread>
-        ensures { IfOk result (λ found. IfSome found (λ blob. blob.faults ≡ 0)) }
+    fn blob_at(&mut self, alloc: Global, at: &Path) -> Result<Option<FileBlob<R::File>>, FileError>
+        ensures fresh { IfOk result (λ found. IfSome found (λ blob. blob.faults ≡ 0)) }
+        ensures faults { self.new.faults ≡ self.old.faults }
     {
-        match self.root.open_file(alloc, at.text(alloc)?.as_str())? {
+        match self.root.open_file(alloc, at)? {
             Some(Opened { file, length }) => Ok(Some(FileBlob::new(file, length))),
             None => Ok(None),
         }
     }
 
-    // The next page of the walk that gave the last one, where it is asked for, and else of a new walk. A walk that has
-    // ended, or that met a fault, is let go with all that it held.
+    // The next page of the walk that gave the last one, where it is asked for, and else of a new walk.
+    // A walk that has ended, or that met a fault, is let go with all that it held.
     fn page_after(
         &mut self,
         alloc: Global,
         under: &Path,
         after: Option<&Path>,
         most: usize,
-    ) -> Result<Vec<Path>, Unread>
+    ) -> Result<Vec<Path>, FileError>
         ensures most { IfOk result (λ page. vec_len page ≤ most) }
         ensures order { IfOk result (λ page. Ascends under.now (option_map (λ a. a.now) after.entry) page.items) }
         ensures faults { self.new.faults ≡ self.old.faults }
     {
         let mut walk = match self.walk.take() {
             Some(walk) if walk.stands_at(under, after) => walk,
-            _ => Walk::begin(alloc, &self.root, under, after)?,
+            _ => Walk::begin(alloc, &mut self.root, under, after)?,
         };
-        let page = walk.page(alloc, &self.root, under, after, most)?;
+        let page = walk.page(alloc, &mut self.root, under, after, most)?;
         if page.len() == most {
             self.walk = Some(walk);
         }
@@ -163,14 +166,14 @@ impl<R: Files + AllocGlobal + Clone + Drop> FileDepot<R> {
     }
 }
 
-// All that a file holds, as far as `most` bytes.
-fn read_up_to<F: Read + Drop>(alloc: Global, file: F, most: u64) -> Result<Small, Unread>
-    ensures { IfOk result (IsUpTo most) }
+// The first bytes of a file, as many as it had when it was opened. It is a fault where there are fewer.
+fn read_whole<F: Read + Drop>(alloc: Global, mut file: F, size: u64) -> Result<Bytes, FileError>
+    ensures { IfOk result (λ bytes. length bytes ≡ size) }
 {
-    let mut bytes = Vec::new(alloc);
-    let _ = file.take(most.saturating_add(1)).read_to_end(&mut bytes)?;
-    if bytes.len() as u64 > most {
-        return Ok(Small::TooLong);
-    }
-    Ok(Small::Content(Bytes::from_vec(bytes)))
+    let Ok(size) = usize::try_from(size) else {
+        return Err(FileError::NoMemory);
+    };
+    let mut bytes = vec![in alloc; 0; size]?;
+    file.read_exact(&mut bytes)?;
+    Ok(Bytes::from_vec(bytes))
 }

@@ -2,15 +2,13 @@
 //! `FileDepot` meets the trait `Depot` without telling its content: no clause can say what a disk holds. What is proved
 //! is that a fault is answered only where the count of faults rose; that the calls read what lies there is tested.
 //! The program hands it to the calls that are proved over every depot. Paths lie below a root, and no symbolic link
-//! is followed out of it.
+//! below it is followed: one at a path, or in the place of a folder above it, is a fault.
 #![tactic(auto)]
 
 mod blob;
 mod directory;
+mod error;
 mod root;
-#[cfg(test)]
-mod tests;
-mod unread;
 mod walk;
 
 pub use blob::FileBlob;

@@ -1,30 +1,52 @@
 //! The root of a depot, and what lies below it.
-ghost use Rattle.std.specs.Prelude.{◌≤◌, ◌^◌, IfOk, IfSome};
+ghost use Rattle.std.specs.Prelude.{◌≡◌, ◌≤◌, ◌^◌, IfOk, IfSome, OnOk};
+ghost use Rattle.std.specs.BTreeSet.{btree_set_len};
+ghost use Rattle.depot_files.specs.declared.root.TheConstants.{MOST_FOLDERS};
 
-use crate::unread::{Unread, if_there};
+use crate::error::{FileError, if_there};
+use depot_api::{Part, Path};
 use std::alloc::Global;
+use std::collections::BTreeSet;
 use std::fs::{self, Metadata, OpenFile};
-use std::io::{self, ErrorKind};
-use std::path::{AsPath, Path, PathBuf};
+use std::io::{self, Read};
+use std::os::unix::fs::MetadataExt;
+use std::path::AsPath;
 use std::rt::Files;
 
 /// The length of the longest file of a depot.
 const LONGEST: u64 = 1 << 62;
 
-/// A directory, and the system that has it. Paths are relative to the directory. A path on which a symbolic link leads
-/// nowhere, or out of the directory, is a fault.
+/// The most folders that are remembered.
+const MOST_FOLDERS: usize = 1024;
+
+/// How often a file is looked at that is another one whenever it is opened.
+const MOST_LOOKS: usize = 3;
+
+/// The most reads of one folder. No disk holds names for as many.
+const MOST_READS: u64 = 1 << 62;
+
+/// How many bytes of names one read of a folder takes.
+const NAMES_READ: usize = 8192;
+
+/// A directory, and the system that has it. Paths are relative to the directory. No symbolic link below it is
+/// followed: one at a path, or in the place of a folder above it, is a fault.
 #[derive(Drop)]
 pub struct Root<R> {
     rt: R,
     /// The directory's own path, with no symbolic link in it.
     path: String,
+    /// The system's paths of folders that were there and are no links, which are not looked at again.
+    folders: BTreeSet<String>,
+    ghost few: { btree_set_len folders ≤ MOST_FOLDERS },
 }
 
 /// What lies at a path.
-#[derive(Clone, Copy, PartialEq, Eq)]
+#[derive(Drop)]
 pub enum Entry {
     File,
-    Folder,
+    /// The names in a folder that are parts of paths, in any order.
+    Folder(Vec<Part>),
+    /// Nothing, or what is neither a file nor a folder.
     Other,
 }
 
@@ -37,169 +59,186 @@ pub struct Opened<F> {
 }
 
 impl<R: Files + AllocGlobal> Root<R> {
-    /// The root at a path of the system. What is no directory is refused with `NotADirectory`.
+    /// The root at a path of the system. What is no directory, and what cannot be opened or searched, is refused.
     pub fn open(rt: R, path: &str) -> io::Result<Root<R>>
     where
         R: Drop,
     {
+        let alloc = rt.alloc();
         let path = fs::canonicalize(&rt, path)?;
-        if !fs::metadata(&rt, path.path_text())?.is_dir() {
-            return Err(io::Error::from(ErrorKind::NotADirectory));
-        }
-        let path = String::from_str(rt.alloc(), path.path_text())?;
-        Ok(Root { rt, path })
+        let path = String::from_str(alloc, path.path_text())?;
+        let _ = rt.open_dir(path.as_str())?;
+        let inside = format!(in alloc; "{path}/.")?;
+        let _ = fs::symlink_metadata(&rt, inside.as_str())?;
+        let folders = BTreeSet::new(alloc);
+        Ok(Root { rt, path, folders })
     }
 
-    /// Opens the file at a path.
-    pub fn open_file(&self, alloc: Global, path: &str) -> Result<Option<Opened<R::File>>, Unread>
+    /// Opens the file at a path. What is opened is what was looked at before: a file that has come in its place is
+    /// looked at anew.
+    pub fn open_file(
+        &mut self,
+        alloc: Global,
+        path: &Path,
+    ) -> Result<Option<Opened<R::File>>, FileError>
         ensures { IfOk result (λ found. IfSome found (λ opened. opened.length ≤ 2 ^ 62)) }
     {
-        let Some(found) = self.file(alloc, path)? else {
+        let Some(asked) = self.reach(alloc, path)? else {
             return Ok(None);
         };
-        let Some(file) = if_there(fs::open(&self.rt, found.path_text()))? else {
-            return Ok(None);
-        };
-        let length = length_of(&file.metadata()?)?;
-        Ok(Some(Opened { file, length }))
+        for _ in 0..MOST_LOOKS {
+            let Some(seen) = self.file_at(asked.as_str())? else {
+                return Ok(None);
+            };
+            if let Some(opened) = self.open_seen(asked.as_str(), &seen)? {
+                return Ok(Some(opened));
+            }
+        }
+        Err(FileError::Fault)
     }
 
     /// The length of the file at a path, in bytes.
-    pub fn file_len(&self, alloc: Global, path: &str) -> Result<Option<u64>, Unread>
+    pub fn file_len(&mut self, alloc: Global, path: &Path) -> Result<Option<u64>, FileError>
         ensures { IfOk result (λ found. IfSome found (λ length. length ≤ 2 ^ 62)) }
     {
-        match self.metadata(alloc, path)? {
-            Some(found) if found.is_file() => Ok(Some(length_of(&found)?)),
-            _ => Ok(None),
-        }
-    }
-
-    /// What lies at a path in a folder that lies below the root. A symbolic link is what it leads to, where that is no
-    /// folder, and else a fault.
-    pub fn entry(&self, alloc: Global, path: &str) -> Result<Option<Entry>, Unread> {
-        let asked = self.system_path(alloc, path)?;
-        match if_there(fs::symlink_metadata(&self.rt, asked.as_str()))? {
-            Some(link) if link.is_symlink() => self.linked(alloc, path),
-            found => Ok(found.map(entry_of)),
-        }
-    }
-
-    /// Whether something lies at a path.
-    pub fn has(&self, alloc: Global, path: &str) -> Result<bool, Unread> {
-        Ok(self.resolved(alloc, path)?.is_some())
-    }
-
-    /// The names in a folder that lies below the root, in any order, but for those that are not UTF-8.
-    pub fn names(&self, alloc: Global, folder: &str) -> Result<Vec<String>, Unread>
-    where
-        R: Clone + Drop,
-    {
-        let mut names = Vec::new(alloc);
-        let folder = self.system_path(alloc, folder)?;
-        let Some(entries) = if_there(fs::read_dir(&self.rt, folder.as_str()))? else {
-            return Ok(names);
+        let Some(asked) = self.reach(alloc, path)? else {
+            return Ok(None);
         };
-        for entry in entries {
-            match entry {
-                Ok(entry) => names.push(String::from_str(alloc, entry.file_name())?)?,
-                Err(error) if error.kind() == ErrorKind::InvalidFilename => {}
-                Err(error) => return Err(Unread::from(error)),
+        match self.file_at(asked.as_str())? {
+            Some(found) => Ok(Some(length_of(&found)?)),
+            None => Ok(None),
+        }
+    }
+
+    /// What lies at a path, where the folders above it are there.
+    pub fn entry(&mut self, alloc: Global, path: &Path) -> Result<Entry, FileError> {
+        let asked = self.system_path(alloc, path)?;
+        // The system opens no link as a folder.
+        if let Some(folder) = if_there(self.rt.open_dir(asked.as_str()))? {
+            self.remember(asked)?;
+            return Ok(Entry::Folder(names_in(alloc, folder)?));
+        }
+        match self.file_at(asked.as_str())? {
+            Some(_) => Ok(Entry::File),
+            None => Ok(Entry::Other),
+        }
+    }
+
+    /// Whether the folders above a path are there.
+    pub fn has_folders(&mut self, alloc: Global, path: &Path) -> Result<bool, FileError> {
+        let mut folder = String::from_str(alloc, self.path.as_str())?;
+        let Some((_, above)) = path.parts().split_last() else {
+            return Ok(false);
+        };
+        for part in above {
+            folder.push_str("/")?;
+            folder.push_str(part.as_str())?;
+            if !self.has_folder(alloc, folder.as_str())? {
+                return Ok(false);
             }
         }
-        Ok(names)
+        Ok(true)
     }
 
-    // What a symbolic link leads to. A walk through linked folders may have no end, so a folder is a fault.
-    fn linked(&self, alloc: Global, path: &str) -> Result<Option<Entry>, Unread> {
-        match self.metadata(alloc, path)?.map(entry_of) {
-            Some(Entry::Folder) => Err(Unread::Fault),
+    // Whether a folder is there, at a path of the system in a folder that is there.
+    fn has_folder(&mut self, alloc: Global, folder: &str) -> Result<bool, FileError> {
+        if self.folders.contains(folder) {
+            return Ok(true);
+        }
+        let is_there = self.look(folder)?.is_some_and(|found| found.is_dir());
+        if is_there {
+            self.remember(String::from_str(alloc, folder)?)?;
+        }
+        Ok(is_there)
+    }
+
+    // All are forgotten where one more would be too many.
+    fn remember(&mut self, folder: String) -> Result<(), FileError> {
+        if self.folders.len() >= MOST_FOLDERS {
+            self.folders.clear();
+        }
+        let _ = self.folders.insert(folder)?;
+        Ok(())
+    }
+
+    // The system's path of a path, where the folders above it are there.
+    fn reach(&mut self, alloc: Global, path: &Path) -> Result<Option<String>, FileError> {
+        let asked = self.system_path(alloc, path)?;
+        match asked.rsplit_once('/') {
+            Some((folder, _)) if self.folders.contains(folder) => Ok(Some(asked)),
+            _ => Ok(self.has_folders(alloc, path)?.then_some(asked)),
+        }
+    }
+
+    // The file at a path of the system.
+    fn file_at(&self, asked: &str) -> Result<Option<Metadata>, FileError> {
+        Ok(self.look(asked)?.filter(|found| found.is_file()))
+    }
+
+    // What lies at a path of the system. A symbolic link is a fault.
+    fn look(&self, asked: &str) -> Result<Option<Metadata>, FileError> {
+        match if_there(fs::symlink_metadata(&self.rt, asked))? {
+            Some(found) if found.is_symlink() => Err(FileError::Fault),
             found => Ok(found),
         }
     }
 
-    // The system's path of the file at a path.
-    fn file(&self, alloc: Global, path: &str) -> Result<Option<PathBuf>, Unread> {
-        let Some(found) = self.resolved(alloc, path)? else {
+    // Opens the file that was seen at a path of the system, unless another one lies there by now.
+    fn open_seen(&self, asked: &str, seen: &Metadata) -> Result<Option<Opened<R::File>>, FileError>
+        ensures { IfOk result (λ found. IfSome found (λ opened. opened.length ≤ 2 ^ 62)) }
+    {
+        let Some(file) = if_there(fs::open(&self.rt, asked))? else {
             return Ok(None);
         };
-        match if_there(fs::metadata(&self.rt, found.path_text()))? {
-            Some(metadata) if metadata.is_file() => Ok(Some(found)),
-            _ => Ok(None),
+        let found = file.metadata()?;
+        if (found.dev(), found.ino()) != (seen.dev(), seen.ino()) {
+            return Ok(None);
         }
+        let length = length_of(&found)?;
+        Ok(Some(Opened { file, length }))
     }
 
-    fn metadata(&self, alloc: Global, path: &str) -> Result<Option<Metadata>, Unread> {
-        match self.resolved(alloc, path)? {
-            Some(found) => if_there(fs::metadata(&self.rt, found.path_text())),
-            None => Ok(None),
-        }
-    }
-
-    // The system's path of what lies at a path, with no symbolic link in it.
-    fn resolved(&self, alloc: Global, path: &str) -> Result<Option<PathBuf>, Unread> {
-        let asked = self.system_path(alloc, path)?;
-        let found = self.followed(asked.as_str())?;
-        if found.is_none() {
-            self.expect_absent(alloc, path)?;
-        }
-        Ok(found)
-    }
-
-    // Where nothing was found at a path: a fault, but where the longest front of it at which something lies is within
-    // the root. A link that leads nowhere is such a front.
-    fn expect_absent(&self, alloc: Global, path: &str) -> Result<(), Unread> {
-        for front in Path::new(path).ancestors() {
-            let asked = self.system_path(alloc, front.as_str())?;
-            if if_there(fs::symlink_metadata(&self.rt, asked.as_str()))?.is_some() {
-                return match self.followed(asked.as_str())? {
-                    Some(_) => Ok(()),
-                    None => Err(Unread::Fault),
-                };
-            }
-        }
-        Err(Unread::Fault)
-    }
-
-    // Where all symbolic links lead on a path of the system. Out of the root is a fault.
-    fn followed(&self, asked: &str) -> Result<Option<PathBuf>, Unread> {
-        match if_there(fs::canonicalize(&self.rt, asked))? {
-            Some(found) if is_within(self.path.as_str(), found.path_text()) => Ok(Some(found)),
-            Some(_) => Err(Unread::Fault),
-            None => Ok(None),
-        }
-    }
-
-    fn system_path(&self, alloc: Global, path: &str) -> Result<String, Unread> {
+    fn system_path(&self, alloc: Global, path: &Path) -> Result<String, FileError> {
         let root = self.path.as_str();
-        Ok(format!(in alloc; "{root}/{path}")?)
-    }
-}
-
-fn entry_of(metadata: Metadata) -> Entry {
-    if metadata.is_dir() {
-        Entry::Folder
-    } else if metadata.is_file() {
-        Entry::File
-    } else {
-        Entry::Other
+        let path = path.text(alloc)?;
+        Ok(format!(in alloc; "{root}/{}", path.as_str())?)
     }
 }
 
 // The length of a file. One that is longer than any file of a depot is a fault.
-fn length_of(file: &Metadata) -> Result<u64, Unread>
+fn length_of(file: &Metadata) -> Result<u64, FileError>
     ensures { IfOk result (λ length. length ≤ 2 ^ 62) }
 {
     if file.len() <= LONGEST {
         Ok(file.len())
     } else {
-        Err(Unread::Fault)
+        Err(FileError::Fault)
     }
 }
 
-// Whether a path without symbolic links is that of a root, or lies below it.
-fn is_within(root: &str, path: &str) -> bool {
-    match path.strip_prefix(root) {
-        Some(rest) => rest.is_empty() || rest.starts_with('/') || root.ends_with('/'),
-        None => false,
+// The names in an open folder that are parts of paths: those that are not UTF-8 are none.
+fn names_in<D: Read + Drop>(alloc: Global, mut folder: D) -> Result<Vec<Part>, FileError> {
+    let mut names = Vec::new(alloc);
+    let mut read = [0; NAMES_READ];
+    for _ in 0..MOST_READS {
+        let n = folder.read(&mut read)?;
+        if n == 0 {
+            return Ok(names);
+        }
+        push_names(alloc, &mut names, &read[..n])?;
     }
+    Err(FileError::NoMemory)
+}
+
+// Takes the names of one read, with a NUL behind each.
+fn push_names(alloc: Global, names: &mut Vec<Part>, read: &[u8]) -> Result<(), FileError> {
+    for name in read.split(|byte| *byte == 0) {
+        let Ok(name) = str::from_utf8(name) else {
+            continue;
+        };
+        if let Some(part) = Part::read(alloc, name)? {
+            names.push(part)?;
+        }
+    }
+    Ok(())
 }

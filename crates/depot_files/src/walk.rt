@@ -2,19 +2,20 @@
 ghost use Rattle.std.specs.Prelude.{◌≤◌, vec_len, IsTrue, IfOk, option_map};
 ghost use Rattle.depot_api.specs.Pages.{IsAsked, Ascends};
 
+use crate::error::FileError;
 use crate::root::{Entry, Root};
-use crate::unread::Unread;
 use depot_api::{Part, Path};
 use reg_names::NoMemory;
 use std::alloc::{AllocError, Global};
 use std::rt::Files;
 
-/// The most files and folders that one page looks at. No disk holds as many, but no clause can say so; such a page
-/// would find no memory.
+/// The most files and folders that one page looks at. No disk holds as many, but no clause can say
+/// so; such a page would find no memory.
 const MOST_TURNS: u64 = 1 << 62;
 
-/// The files that begin with a path and come after another, in the order of their paths. A folder is listed once,
-/// when the walk comes to it, and its names are held until it has gone through them. No folder stays open.
+/// The files that begin with a path and come after another, in the order of their paths. A folder is
+/// listed once, when the walk comes to it, and its names are held until it has gone through them. No
+/// folder stays open.
 ///
 /// What is neither a file nor a folder is passed over, and so are names that are no part of a path.
 #[derive(Drop)]
@@ -32,21 +33,20 @@ struct Ahead {
     /// The path of the folder, and nothing for the root itself.
     folder: String,
     /// The names in it, the next one at the end.
-    names: Vec<String>,
+    names: Vec<Part>,
 }
 
 impl Walk {
     /// The walk through the files that begin with `under` and come after `after`.
     pub fn begin<R: Files + AllocGlobal>(
         alloc: Global,
-        root: &Root<R>,
+        root: &mut Root<R>,
         under: &Path,
         after: Option<&Path>,
-    ) -> Result<Walk, Unread> {
+    ) -> Result<Walk, FileError> {
         let mut ahead = Vec::new(alloc);
-        let text = text_of(alloc, under)?;
-        if comes_after(under, after) && root.has(alloc, text.as_str())? {
-            ahead.push(Ahead::of_path(alloc, text)?)?;
+        if comes_after(under, after) && root.has_folders(alloc, under)? {
+            ahead.push(Ahead::of_path(alloc, under)?)?;
         }
         Ok(Walk {
             under: under.copy(alloc)?,
@@ -60,16 +60,16 @@ impl Walk {
         self.under == *under && self.after.as_ref() == after
     }
 
-    /// The next files, at most so many, of a walk that stands at `under` and `after`. What the system gives out of
-    /// their order is passed over.
-    pub fn page<R: Files + AllocGlobal + Clone + Drop>(
+    /// The next files, at most so many, of a walk that stands at `under` and `after`. What the system
+    /// gives out of their order is passed over.
+    pub fn page<R: Files + AllocGlobal>(
         &mut self,
         alloc: Global,
-        root: &Root<R>,
+        root: &mut Root<R>,
         under: &Path,
         after: Option<&Path>,
         most: usize,
-    ) -> Result<Vec<Path>, Unread>
+    ) -> Result<Vec<Path>, FileError>
         ensures most { IfOk result (λ page. vec_len page ≤ most) }
         ensures order { IfOk result (λ page. Ascends under.now (option_map (λ a. a.now) after.entry) page.items) }
     {
@@ -93,67 +93,58 @@ impl Walk {
                 page.push(file)?;
             }
         }
-        Err(Unread::NoMemory)
+        Err(FileError::NoMemory)
     }
 
     // The path of a file, where one lies there. Of a folder the names come next.
-    fn visit<R: Files + AllocGlobal + Clone + Drop>(
+    fn visit<R: Files + AllocGlobal>(
         &mut self,
         alloc: Global,
-        root: &Root<R>,
+        root: &mut Root<R>,
         text: &str,
-    ) -> Result<Option<Path>, Unread> {
+    ) -> Result<Option<Path>, FileError> {
         let Some(path) = Path::read(alloc, text)? else {
             return Ok(None);
         };
-        match root.entry(alloc, text)? {
-            Some(Entry::File) => return Ok(Some(path)),
-            Some(Entry::Folder) => self.enter(alloc, root, &path, text)?,
-            _ => {}
+        match root.entry(alloc, &path)? {
+            Entry::File => Ok(Some(path)),
+            Entry::Folder(names) => {
+                let first = first_name(self.after.as_ref(), &path);
+                self.ahead
+                    .push(Ahead::of_folder(alloc, text, names, first)?)?;
+                Ok(None)
+            }
+            Entry::Other => Ok(None),
         }
-        Ok(None)
     }
 
     fn has_given(&mut self, alloc: Global, file: &Path) -> Result<(), NoMemory> {
         self.after = Some(file.copy(alloc)?);
         Ok(())
     }
-
-    // Puts what lies in a folder before all else, from the name on to which `after` leads.
-    fn enter<R: Files + AllocGlobal + Clone + Drop>(
-        &mut self,
-        alloc: Global,
-        root: &Root<R>,
-        folder: &Path,
-        text: &str,
-    ) -> Result<(), Unread> {
-        let names = root.names(alloc, text)?;
-        let first = first_name(self.after.as_ref(), folder);
-        self.ahead
-            .push(Ahead::of_folder(alloc, text, names, first)?)?;
-        Ok(())
-    }
 }
 
 impl Ahead {
     // What lies at one path alone.
-    fn of_path(alloc: Global, path: String) -> Result<Ahead, AllocError> {
+    fn of_path(alloc: Global, path: &Path) -> Result<Ahead, FileError> {
         let mut names = Vec::new(alloc);
-        names.push(path)?;
-        Ok(Ahead {
-            folder: String::new(alloc),
-            names,
-        })
+        let mut folder = String::new(alloc);
+        if let Some((last, above)) = path.parts().split_last() {
+            folder.push_str(Part::join(alloc, above)?.as_str())?;
+            names.push(last.copy(alloc)?)?;
+        }
+        Ok(Ahead { folder, names })
     }
 
-    // The names of a folder, from the first on, in the order of paths.
+    // The names of a folder, from the first on, in the order of paths. What comes before that one the
+    // walk has gone through.
     fn of_folder(
         alloc: Global,
         folder: &str,
-        mut names: Vec<String>,
+        mut names: Vec<Part>,
         first: Option<&Part>,
     ) -> Result<Ahead, AllocError> {
-        names.retain(|name| first.is_none_or(|first| first.as_str() <= name.as_str()));
+        names.retain(|name| first.is_none_or(|first| first <= name));
         names.sort_unstable_by(|a, b| b.cmp(a));
         Ok(Ahead {
             folder: String::from_str(alloc, folder)?,
@@ -161,11 +152,14 @@ impl Ahead {
         })
     }
 
-    // The path of what comes next.
+    // The text of the path of what comes next.
     fn next(&mut self, alloc: Global) -> Result<Option<String>, AllocError> {
         match self.names.pop() {
-            Some(name) if self.folder.is_empty() => Ok(Some(name)),
-            Some(name) => Ok(Some(format!(in alloc; "{}/{name}", self.folder)?)),
+            Some(name) if self.folder.is_empty() => Ok(Some(String::from_str(
+                alloc,
+                name.as_str(),
+            )?)),
+            Some(name) => Ok(Some(format!(in alloc; "{}/{}", self.folder, name.as_str())?)),
             None => Ok(None),
         }
     }
@@ -189,8 +183,4 @@ fn comes_after(under: &Path, after: Option<&Path>) -> bool {
         Some(after) => after < under || after.begins_with(under),
         None => true,
     }
-}
-
-fn text_of(alloc: Global, path: &Path) -> Result<String, NoMemory> {
-    Ok(String::from_str(alloc, path.text(alloc)?.as_str())?)
 }

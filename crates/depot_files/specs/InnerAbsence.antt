@@ -1,3 +1,4 @@
+-- The proof's own: no public clause cites what stands here.
 -- When the system says that nothing lies at a path.
 use Rattle.std.specs.Prelude.{◌≡◌, ◌⊎◌}
 use Rattle.std.specs.declared.io.ErrorKind.{ErrorKind}
