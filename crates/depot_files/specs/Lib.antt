@@ -1,2 +1,2 @@
-pub mod InnerAbsence
 pub mod Silence
+pub mod InnerKinds

@@ -1,5 +1,6 @@
 //! A file that is read from its front.
-ghost use Rattle.std.specs.Prelude.{◌≡◌, ◌≤◌, ◌^◌};
+ghost use Rattle.std.specs.Prelude.{◌≡◌, ◌≤◌};
+ghost use Rattle.depot_api.specs.Limits.{file_limit};
 
 use depot_api::{Blob, BlobFault};
 use std::io::Read;
@@ -10,13 +11,13 @@ pub struct FileBlob<F> {
     file: F,
     left: u64,
     faults: u64,
-    ghost short: { left ≤ 2 ^ 62 },
+    ghost short: { left ≤ file_limit },
 }
 
 impl<F> FileBlob<F> {
     /// The next `left` bytes of a file.
     pub fn new(file: F, left: u64) -> FileBlob<F>
-        requires { left ≤ 2 ^ 62 }
+        requires { left ≤ file_limit }
         ensures left { result.left ≡ left }
         ensures faults { result.faults ≡ 0 }
     {
@@ -36,13 +37,9 @@ impl<F> FileBlob<F> {
 }
 
 impl<F: Read> Blob for FileBlob<F> {
-    ghost use Rattle.std.specs.Prelude.{false, []};
+    ghost use Rattle.depot_files.specs.Silence.{untold_rest};
 
-    ghost tells = { λ _. false };
-
-    ghost bytes = { λ _. [] };
-
-    ghost left = { λ b. b.left };
+    ghost rest = { λ b. untold_rest b.left };
 
     ghost faults = { λ b. b.faults };
 

@@ -1,9 +1,12 @@
 //! The directory.
-ghost use Rattle.std.specs.Prelude.{◌≡◌, ◌≤◌, ◌^◌, length, Ok, vec_len, IfOk, IfSome, IsErrOf, option_map, ⊤};
+ghost use Rattle.std.specs.Prelude.{◌≡◌, ◌≤◌, length, Ok, vec_len, IfOk, ⊤};
+ghost use Rattle.std.specs.Option.{option_copied};
 ghost use Rattle.reg_names.specs.Cause.{HasCause};
-ghost use Rattle.reg_names.specs.declared.refused.Refused.TheVariants as refusals;
+ghost use Rattle.reg_names.specs.Refusals.{HasFailed};
 ghost use Rattle.depot_api.specs.Files.{IsUpTo};
-ghost use Rattle.depot_api.specs.Pages.{Ascends};
+ghost use Rattle.depot_api.specs.Holdings.{IfFound};
+ghost use Rattle.depot_api.specs.Limits.{file_limit};
+ghost use Rattle.depot_api.specs.Pages.{ArePathsAbove};
 
 use crate::blob::FileBlob;
 use crate::error::FileError;
@@ -15,17 +18,24 @@ use std::alloc::Global;
 use std::io::{self, Read};
 use std::rt::Files;
 
-/// The files below a root directory.
+/// The files below a root directory, which nobody else writes.
+///
+/// What is answered of a file comes from the one that was looked at: a regular file, whose path has
+/// no symbolic link. A folder above it is looked at once, as long as it is remembered.
+///
+/// The walk of a page is kept for the next one. A call that changes files drops it.
 #[derive(Drop)]
 pub struct FileDepot<R> {
     root: Root<R>,
-    /// Behind the last page, whose walk a next page may go on with. A page that is not full has ended its walk.
+    /// Behind the last page, whose walk a next page may go on with. A page that is not full has
+    /// ended its walk.
     walk: Option<Walk>,
     faults: u64,
 }
 
 impl<R: Files + AllocGlobal> FileDepot<R> {
-    /// The depot of a directory. What is none, or is not there, is refused.
+    /// The depot of a directory. What is none, is not there, or cannot be opened or searched is
+    /// refused.
     pub fn open(rt: R, root: &str) -> io::Result<FileDepot<R>>
     where
         R: Drop,
@@ -49,12 +59,9 @@ impl<R: Files + AllocGlobal> FileDepot<R> {
 impl<R: Files + AllocGlobal + Drop> Depot for FileDepot<R> {
     type B = FileBlob<R::File>;
 
-    ghost use Rattle.std.specs.Prelude.{false};
     ghost use Rattle.depot_files.specs.Silence.{untold};
 
-    ghost tells = { λ _. false };
-
-    ghost files = { λ _. untold };
+    ghost held = { λ _. untold };
 
     ghost faults = { λ d. d.faults };
 
@@ -95,7 +102,7 @@ impl<R: Files + AllocGlobal + Drop> FileDepot<R> {
     // What was read, or the refusal. A fault is counted.
     fn counted<T: Drop>(&mut self, read: Result<T, FileError>) -> Result<T, Refused>
         ensures value { IfOk result (λ value. read ≡ Ok value) }
-        ensures cause { HasCause self.old.faults self.new.faults (IsErrOf result refusals.Failed) }
+        ensures cause { HasCause self.old.faults self.new.faults (HasFailed result) }
     {
         match read {
             Ok(value) => Ok(value),
@@ -114,7 +121,7 @@ impl<R: Files + AllocGlobal + Drop> FileDepot<R> {
     }
 
     fn size_at(&mut self, alloc: Global, at: &Path) -> Result<Option<u64>, FileError>
-        ensures size { IfOk result (λ found. IfSome found (λ size. size ≤ 2 ^ 62)) }
+        ensures size { IfFound result (λ size. size ≤ file_limit) }
         ensures faults { self.new.faults ≡ self.old.faults }
     {
         self.root.file_len(alloc, at)
@@ -132,7 +139,7 @@ impl<R: Files + AllocGlobal + Drop> FileDepot<R> {
     }
 
     fn blob_at(&mut self, alloc: Global, at: &Path) -> Result<Option<FileBlob<R::File>>, FileError>
-        ensures fresh { IfOk result (λ found. IfSome found (λ blob. blob.faults ≡ 0)) }
+        ensures fresh { IfFound result (λ blob. blob.faults ≡ 0) }
         ensures faults { self.new.faults ≡ self.old.faults }
     {
         match self.root.open_file(alloc, at)? {
@@ -141,8 +148,8 @@ impl<R: Files + AllocGlobal + Drop> FileDepot<R> {
         }
     }
 
-    // The next page of the walk that gave the last one, where it is asked for, and else of a new walk.
-    // A walk that has ended, or that met a fault, is let go with all that it held.
+    // The next page of the walk that gave the last one, where it is asked for, and else of a new
+    // walk. A walk that has ended, or that met a fault, is let go with all that it held.
     fn page_after(
         &mut self,
         alloc: Global,
@@ -151,7 +158,8 @@ impl<R: Files + AllocGlobal + Drop> FileDepot<R> {
         most: usize,
     ) -> Result<Vec<Path>, FileError>
         ensures most { IfOk result (λ page. vec_len page ≤ most) }
-        ensures order { IfOk result (λ page. Ascends under.now (option_map (λ a. a.now) after.entry) page.items) }
+        ensures order { IfOk result (λ page.
+            ArePathsAbove under.now (option_copied after.entry) page.items) }
         ensures faults { self.new.faults ≡ self.old.faults }
     {
         let mut walk = match self.walk.take() {
@@ -166,7 +174,8 @@ impl<R: Files + AllocGlobal + Drop> FileDepot<R> {
     }
 }
 
-// The first bytes of a file, as many as it had when it was opened. It is a fault where there are fewer.
+// The first bytes of a file, as many as it had when it was opened. Where there are fewer it is a
+// fault.
 fn read_whole<F: Read + Drop>(alloc: Global, mut file: F, size: u64) -> Result<Bytes, FileError>
     ensures { IfOk result (λ bytes. length bytes ≡ size) }
 {

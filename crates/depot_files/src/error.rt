@@ -1,8 +1,7 @@
 //! Why nothing was read.
 ghost use Rattle.std.specs.Prelude.{◌≡◌, ◌↔◌, Ok, Err, Some, None, IfOk, IfErr};
 ghost use Rattle.std.specs.IoError.{error_kind};
-ghost use Rattle.std.specs.declared.io.ErrorKind.TheVariants as kinds;
-ghost use Rattle.depot_files.specs.InnerAbsence.{IsAbsent};
+ghost use Rattle.depot_files.specs.InnerKinds.{IsAbsent, IsWantOfMemory};
 ghost use Rattle.depot_files.specs.declared.error.FileError.TheVariants as errors;
 
 use reg_names::NoMemory;
@@ -20,7 +19,8 @@ pub enum FileError {
 pub fn if_there<T>(given: io::Result<T>) -> Result<Option<T>, FileError>
     ensures value { IfOk given (λ value. result ≡ Ok (Some value)) }
     ensures absent { IfErr given (λ error. (result ≡ Ok None) ↔ IsAbsent (error_kind error)) }
-    ensures memory { IfErr given (λ error. (result ≡ Err errors.NoMemory) ↔ (error_kind error ≡ kinds.OutOfMemory)) }
+    ensures memory { IfErr given (λ error.
+        (result ≡ Err errors.NoMemory) ↔ IsWantOfMemory (error_kind error)) }
 {
     match given {
         Ok(value) => Ok(Some(value)),
@@ -34,10 +34,11 @@ pub fn if_there<T>(given: io::Result<T>) -> Result<Option<T>, FileError>
 impl From<io::Error> for FileError {
     ghost use Rattle.std.specs.Prelude.{◌≡◌, ◌↔◌};
     ghost use Rattle.std.specs.IoError.{error_kind};
-    ghost use Rattle.std.specs.declared.io.ErrorKind.TheVariants as kinds;
+    ghost use Rattle.depot_files.specs.InnerKinds.{IsWantOfMemory};
     ghost use Rattle.depot_files.specs.declared.error.FileError.TheVariants as errors;
 
-    ghost from_gives = { λ error told. (told ≡ errors.NoMemory) ↔ (error_kind error ≡ kinds.OutOfMemory) };
+    ghost from_gives = { λ error told.
+        (told ≡ errors.NoMemory) ↔ IsWantOfMemory (error_kind error) };
 
     fn from(error: io::Error) -> FileError {
         match error.kind() {

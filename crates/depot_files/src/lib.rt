@@ -1,8 +1,8 @@
 //! A real directory as a depot of files.
-//! `FileDepot` meets the trait `Depot` without telling its content: no clause can say what a disk holds. What is proved
-//! is that a fault is answered only where the count of faults rose; that the calls read what lies there is tested.
-//! The program hands it to the calls that are proved over every depot. Paths lie below a root, and no symbolic link
-//! below it is followed: one at a path, or in the place of a folder above it, is a fault.
+//! `FileDepot` meets the trait `Depot` without telling its content: no clause can say what a disk
+//! holds. What is proved is that a fault is answered only where the count of faults rose, and that
+//! answers keep to the limits asked for; that the calls read what lies there is tested. Paths lie
+//! below a root, and no symbolic link below it is followed: to meet one is a fault.
 #![tactic(auto)]
 
 mod blob;

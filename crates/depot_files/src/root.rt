@@ -1,10 +1,12 @@
 //! The root of a depot, and what lies below it.
-ghost use Rattle.std.specs.Prelude.{◌≡◌, ◌≤◌, ◌^◌, IfOk, IfSome, OnOk};
+ghost use Rattle.std.specs.Prelude.{◌≤◌, IfOk};
 ghost use Rattle.std.specs.BTreeSet.{btree_set_len};
+ghost use Rattle.depot_api.specs.Holdings.{IfFound};
+ghost use Rattle.depot_api.specs.Limits.{file_limit};
 ghost use Rattle.depot_files.specs.declared.root.TheConstants.{MOST_FOLDERS};
 
 use crate::error::{FileError, if_there};
-use depot_api::{Part, Path};
+use depot_api::{FILE_LIMIT, Part, Path};
 use std::alloc::Global;
 use std::collections::BTreeSet;
 use std::fs::{self, Metadata, OpenFile};
@@ -12,9 +14,6 @@ use std::io::{self, Read};
 use std::os::unix::fs::MetadataExt;
 use std::path::AsPath;
 use std::rt::Files;
-
-/// The length of the longest file of a depot.
-const LONGEST: u64 = 1 << 62;
 
 /// The most folders that are remembered.
 const MOST_FOLDERS: usize = 1024;
@@ -28,14 +27,14 @@ const MOST_READS: u64 = 1 << 62;
 /// How many bytes of names one read of a folder takes.
 const NAMES_READ: usize = 8192;
 
-/// A directory, and the system that has it. Paths are relative to the directory. No symbolic link below it is
-/// followed: one at a path, or in the place of a folder above it, is a fault.
+/// A directory, and the system that has it. Paths are relative to the directory. No symbolic link
+/// below it is followed: one at a path, or in the place of a folder above it, is a fault.
 #[derive(Drop)]
 pub struct Root<R> {
     rt: R,
     /// The directory's own path, with no symbolic link in it.
     path: String,
-    /// The system's paths of folders that were there and are no links, which are not looked at again.
+    /// The system's paths of folders that were there and are no links, at which it looks no more.
     folders: BTreeSet<String>,
     ghost few: { btree_set_len folders ≤ MOST_FOLDERS },
 }
@@ -59,7 +58,8 @@ pub struct Opened<F> {
 }
 
 impl<R: Files + AllocGlobal> Root<R> {
-    /// The root at a path of the system. What is no directory, and what cannot be opened or searched, is refused.
+    /// The root at a path of the system. What is no directory, and what cannot be opened or
+    /// searched, is refused.
     pub fn open(rt: R, path: &str) -> io::Result<Root<R>>
     where
         R: Drop,
@@ -74,14 +74,14 @@ impl<R: Files + AllocGlobal> Root<R> {
         Ok(Root { rt, path, folders })
     }
 
-    /// Opens the file at a path. What is opened is what was looked at before: a file that has come in its place is
-    /// looked at anew.
+    /// Opens the file at a path. What is opened is what was looked at before: a file that has come
+    /// in its place is looked at anew.
     pub fn open_file(
         &mut self,
         alloc: Global,
         path: &Path,
     ) -> Result<Option<Opened<R::File>>, FileError>
-        ensures { IfOk result (λ found. IfSome found (λ opened. opened.length ≤ 2 ^ 62)) }
+        ensures { IfFound result (λ opened. opened.length ≤ file_limit) }
     {
         let Some(asked) = self.reach(alloc, path)? else {
             return Ok(None);
@@ -99,7 +99,7 @@ impl<R: Files + AllocGlobal> Root<R> {
 
     /// The length of the file at a path, in bytes.
     pub fn file_len(&mut self, alloc: Global, path: &Path) -> Result<Option<u64>, FileError>
-        ensures { IfOk result (λ found. IfSome found (λ length. length ≤ 2 ^ 62)) }
+        ensures { IfFound result (λ length. length ≤ file_limit) }
     {
         let Some(asked) = self.reach(alloc, path)? else {
             return Ok(None);
@@ -185,7 +185,7 @@ impl<R: Files + AllocGlobal> Root<R> {
 
     // Opens the file that was seen at a path of the system, unless another one lies there by now.
     fn open_seen(&self, asked: &str, seen: &Metadata) -> Result<Option<Opened<R::File>>, FileError>
-        ensures { IfOk result (λ found. IfSome found (λ opened. opened.length ≤ 2 ^ 62)) }
+        ensures { IfFound result (λ opened. opened.length ≤ file_limit) }
     {
         let Some(file) = if_there(fs::open(&self.rt, asked))? else {
             return Ok(None);
@@ -207,9 +207,9 @@ impl<R: Files + AllocGlobal> Root<R> {
 
 // The length of a file. One that is longer than any file of a depot is a fault.
 fn length_of(file: &Metadata) -> Result<u64, FileError>
-    ensures { IfOk result (λ length. length ≤ 2 ^ 62) }
+    ensures { IfOk result (λ length. length ≤ file_limit) }
 {
-    if file.len() <= LONGEST {
+    if file.len() <= FILE_LIMIT {
         Ok(file.len())
     } else {
         Err(FileError::Fault)

@@ -1,6 +1,7 @@
 //! A walk through the files below a root.
-ghost use Rattle.std.specs.Prelude.{◌≤◌, vec_len, IsTrue, IfOk, option_map};
-ghost use Rattle.depot_api.specs.Pages.{IsAsked, Ascends};
+ghost use Rattle.std.specs.Prelude.{◌≤◌, vec_len, IsTrue, IfOk};
+ghost use Rattle.std.specs.Option.{option_copied};
+ghost use Rattle.depot_api.specs.Pages.{IsAsked, ArePathsAbove};
 
 use crate::error::FileError;
 use crate::root::{Entry, Root};
@@ -13,9 +14,9 @@ use std::rt::Files;
 /// so; such a page would find no memory.
 const MOST_TURNS: u64 = 1 << 62;
 
-/// The files that begin with a path and come after another, in the order of their paths. A folder is
-/// listed once, when the walk comes to it, and its names are held until it has gone through them. No
-/// folder stays open.
+/// The files that begin with a path and come after another, in the order of their paths. A folder
+/// is listed once, when the walk comes to it, and its names are held until it has gone through
+/// them. No folder stays open.
 ///
 /// What is neither a file nor a folder is passed over, and so are names that are no part of a path.
 #[derive(Drop)]
@@ -60,8 +61,8 @@ impl Walk {
         self.under == *under && self.after.as_ref() == after
     }
 
-    /// The next files, at most so many, of a walk that stands at `under` and `after`. What the system
-    /// gives out of their order is passed over.
+    /// The next files, at most so many, of a walk that stands at `under` and `after`. What the
+    /// system gives out of their order is passed over.
     pub fn page<R: Files + AllocGlobal>(
         &mut self,
         alloc: Global,
@@ -71,7 +72,8 @@ impl Walk {
         most: usize,
     ) -> Result<Vec<Path>, FileError>
         ensures most { IfOk result (λ page. vec_len page ≤ most) }
-        ensures order { IfOk result (λ page. Ascends under.now (option_map (λ a. a.now) after.entry) page.items) }
+        ensures order { IfOk result (λ page.
+            ArePathsAbove under.now (option_copied after.entry) page.items) }
     {
         let mut page = Vec::new(alloc);
         for _ in 0..MOST_TURNS {
@@ -136,8 +138,8 @@ impl Ahead {
         Ok(Ahead { folder, names })
     }
 
-    // The names of a folder, from the first on, in the order of paths. What comes before that one the
-    // walk has gone through.
+    // The names of a folder in the order of paths, from the first on that the walk has not gone
+    // through.
     fn of_folder(
         alloc: Global,
         folder: &str,
@@ -172,7 +174,7 @@ fn first_name<'a>(after: Option<&'a Path>, folder: &Path) -> Option<&'a Part> {
 
 // Whether a file is one of those that begin with `under` and come after `after`.
 fn is_asked(under: &Path, after: Option<&Path>, file: &Path) -> bool
-    ensures { IsTrue result → IsAsked under.now (option_map (λ a. a.now) after.entry) file.now }
+    ensures { IsTrue result → IsAsked under.now (option_copied after.entry) file.now }
 {
     file.begins_with(under) && after.is_none_or(|after| after < file)
 }
