@@ -25,7 +25,7 @@ const MOST_LOOKS: usize = 3;
 const MOST_READS: u64 = 1 << 62;
 
 /// How many bytes of names one read of a folder takes.
-const NAMES_READ: usize = 8192;
+const NAMES_READ: usize = 4096;
 
 /// A directory, and the system that has it. Paths are relative to the directory. No symbolic link
 /// below it is followed: one at a path, or in the place of a folder above it, is a fault.
@@ -110,9 +110,18 @@ impl<R: Files + AllocGlobal> Root<R> {
         }
     }
 
-    /// What lies at a path, where the folders above it are there.
-    pub fn entry(&mut self, alloc: Global, path: &Path) -> Result<Entry, FileError> {
+    /// What lies at the path of a text, where the folders above it are there. Where a file is likely,
+    /// it is looked for first.
+    pub fn entry(
+        &mut self,
+        alloc: Global,
+        path: &str,
+        is_file_likely: bool,
+    ) -> Result<Entry, FileError> {
         let asked = self.system_path(alloc, path)?;
+        if is_file_likely && self.file_at(asked.as_str())?.is_some() {
+            return Ok(Entry::File);
+        }
         // The system opens no link as a folder.
         if let Some(folder) = if_there(self.rt.open_dir(asked.as_str()))? {
             self.remember(asked)?;
@@ -163,7 +172,7 @@ impl<R: Files + AllocGlobal> Root<R> {
 
     // The system's path of a path, where the folders above it are there.
     fn reach(&mut self, alloc: Global, path: &Path) -> Result<Option<String>, FileError> {
-        let asked = self.system_path(alloc, path)?;
+        let asked = self.system_path(alloc, path.text(alloc)?.as_str())?;
         match asked.rsplit_once('/') {
             Some((folder, _)) if self.folders.contains(folder) => Ok(Some(asked)),
             _ => Ok(self.has_folders(alloc, path)?.then_some(asked)),
@@ -198,10 +207,9 @@ impl<R: Files + AllocGlobal> Root<R> {
         Ok(Some(Opened { file, length }))
     }
 
-    fn system_path(&self, alloc: Global, path: &Path) -> Result<String, FileError> {
+    fn system_path(&self, alloc: Global, path: &str) -> Result<String, FileError> {
         let root = self.path.as_str();
-        let path = path.text(alloc)?;
-        Ok(format!(in alloc; "{root}/{}", path.as_str())?)
+        Ok(format!(in alloc; "{root}/{path}")?)
     }
 }
 

@@ -108,7 +108,7 @@ impl Walk {
         let Some(path) = Path::read(alloc, text)? else {
             return Ok(None);
         };
-        match root.entry(alloc, &path)? {
+        match root.entry(alloc, text, self.is_file_likely(&path))? {
             Entry::File => Ok(Some(path)),
             Entry::Folder(names) => {
                 let first = first_name(self.after.as_ref(), &path);
@@ -118,6 +118,12 @@ impl Walk {
             }
             Entry::Other => Ok(None),
         }
+    }
+
+    // Most files have the name of the one before them.
+    fn is_file_likely(&self, path: &Path) -> bool {
+        let last = self.after.as_ref().and_then(|after| after.parts().last());
+        last.is_some_and(|last| path.parts().last() == Some(last))
     }
 
     fn has_given(&mut self, alloc: Global, file: &Path) -> Result<(), NoMemory> {
