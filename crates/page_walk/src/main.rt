@@ -1,14 +1,15 @@
-//! A walk through the files of a directory by pages, which a benchmark measures.
-//! It is given a directory, a path below it and how many files a page has, and prints how many files there are. It tells
-//! its usage, with status 2, where it is given other words; a fault has status 1.
-//! `files_under` counts, in any depot that tells what it holds, all files whose paths begin with a path; it changes
-//! none, and answers a fault only where the depot had one. What lies in a directory no clause says: that is tested.
+//! A walk through the files of a directory by pages, which a benchmark measures. Its command-line
+//! arguments are a directory, a path below it and how many files a page has; it prints how many
+//! files there are. Other arguments have status 2 and the usage, a fault has status 1.
+//! `files_under` counts, in any depot that tells its files, all of them whose paths begin with a
+//! path. It changes none, and answers a fault only where the depot had one.
 #![tactic(auto)]
 
-ghost use Rattle.std.specs.Prelude.{◌≡◌, ◌<◌, decimal, IsTrue, IfOk, IfSome, IsErrOf};
-ghost use Rattle.reg_names.specs.Cause.{HasCause};
-ghost use Rattle.reg_names.specs.declared.refused.Refused.TheVariants as refusals;
-ghost use Rattle.page_walk.specs.Counts.{Counts};
+ghost use Rattle.std.specs.Prelude.{◌≡◌, ◌<◌, decimal, IfSome};
+ghost use Rattle.reg_names.specs.Cause.{OnlyReads};
+ghost use Rattle.reg_names.specs.Refusals.{HasFailed};
+ghost use Rattle.depot_api.specs.Holdings.{Finds};
+ghost use Rattle.page_walk.specs.Counts.{CountsUnder};
 
 use depot_api::{Depot, Path, Refused};
 use depot_files::FileDepot;
@@ -18,10 +19,10 @@ use std::process::ExitCode;
 
 const USAGE: &str = "usage: page_walk DIR PATH FILES";
 
-// The status where the words are refused.
+// The status where the arguments are refused.
 const REFUSED: u8 = 2;
 
-/// What the words ask for.
+/// What the arguments ask for.
 #[derive(Drop)]
 struct Asked {
     root: String,
@@ -32,7 +33,7 @@ struct Asked {
 }
 
 fn main(rt: HostRuntime) -> ExitCode {
-    let Some(asked) = read_words(&rt) else {
+    let Some(asked) = read_args(&rt) else {
         return match println!(rt; "{USAGE}") {
             Ok(()) => ExitCode::from(REFUSED),
             Err(_) => ExitCode::FAILURE,
@@ -47,11 +48,11 @@ fn main(rt: HostRuntime) -> ExitCode {
     }
 }
 
-// What the words ask for, which are a directory, a path and how many files a page has, and no more.
-fn read_words(rt: &HostRuntime) -> Option<Asked> {
-    let mut words = env::args(rt).ok()?.skip(1);
-    let (root, under, most) = (words.next()?, words.next()?, words.next()?);
-    if words.next().is_some() {
+// What the arguments ask for: a directory, a path and how many files a page has, and no more.
+fn read_args(rt: &HostRuntime) -> Option<Asked> {
+    let mut args = env::args(rt).ok()?.skip(1);
+    let (root, under, most) = (args.next()?, args.next()?, args.next()?);
+    if args.next().is_some() {
         return None;
     }
     let under = Path::read(rt.alloc(), under.as_str()).ok()??;
@@ -59,17 +60,17 @@ fn read_words(rt: &HostRuntime) -> Option<Asked> {
     Some(Asked { root, under, most })
 }
 
-// The number, not 0, whose decimal digits a word is: it has neither a sign nor leading zeros.
-fn page_length(alloc: Global, word: &str) -> Option<usize>
-    ensures digits { IfSome result (λ most. word.now ≡ decimal most) }
+// The number, not 0, whose decimal digits a text is: it has neither a sign nor leading zeros.
+fn page_length(alloc: Global, text: &str) -> Option<usize>
+    ensures digits { IfSome result (λ most. text.now ≡ decimal most) }
     ensures some { IfSome result (λ most. 0 < most) }
 {
-    let most = word.parse::<usize>().ok()?;
+    let most = text.parse::<usize>().ok()?;
     if most == 0 {
         return None;
     }
     let digits = format!(in alloc; "{most}").ok()?;
-    (digits.as_str() == word).then_some(most)
+    (digits.as_str() == text).then_some(most)
 }
 
 // How many files the directory has under the path.
@@ -86,10 +87,8 @@ fn files_under<D: Depot>(
     most: usize,
 ) -> Result<u64, Refused>
     requires { 0 < most }
-    ensures value { IsTrue (D.tells depot.old) → IfOk result (Counts (D.files depot.old) under.now) }
-    ensures files { D.files depot.new ≡ D.files depot.old }
-    ensures tells { D.tells depot.new ≡ D.tells depot.old }
-    ensures cause { HasCause (D.faults depot.old) (D.faults depot.new) (IsErrOf result refusals.Failed) }
+    ensures value { Finds (D.held depot.old) result (CountsUnder under.now) }
+    ensures reads { OnlyReads D.held D.faults depot.old depot.new (HasFailed result) }
 {
     let mut files = 0_u64;
     let mut last = None;
@@ -102,31 +101,4 @@ fn files_under<D: Depot>(
         last = Some(path);
     }
     Err(Refused::NoMemory)
-}
-
-#[cfg(test)]
-mod tests {
-    use super::*;
-
-    const WORDS: [(&str, Option<usize>); 12] = [
-        ("1", Some(1)),
-        ("64", Some(64)),
-        ("100", Some(100)),
-        ("18446744073709551615", Some(usize::MAX)),
-        ("18446744073709551616", None),
-        ("0", None),
-        ("064", None),
-        ("+64", None),
-        ("-64", None),
-        ("64 ", None),
-        ("6a", None),
-        ("", None),
-    ];
-
-    #[test]
-    fn reads_the_length_of_a_page(rt: HostRuntime) {
-        for (word, most) in WORDS {
-            assert_eq!(rt; page_length(rt.alloc(), word), most, "{word}");
-        }
-    }
 }

@@ -6,8 +6,7 @@ use Rattle.page_walk.proofs.files_under.Given as goal
 -- the pages so far changed nothing, and are counted
 abbrev pub invariant-loop : goal.invariant-loop
 invariant-loop g l = record {
-  files : g.D.Depot.files l.depot ≡ g.D.Depot.files l.fn.depot;
-  tells : g.D.Depot.tells l.depot ≡ g.D.Depot.tells l.fn.depot;
+  held : g.D.Depot.held l.depot ≡ g.D.Depot.held l.fn.depot;
   later : g.D.Depot.faults l.fn.depot ≤ g.D.Depot.faults l.depot;
-  walked : IsTrue (g.D.Depot.tells l.fn.depot) → IsWalked (g.D.Depot.files l.fn.depot) l.fn.under l.last l.files;
+  walked : IsTrue (g.D.Depot.held l.fn.depot).tells → IsWalked (g.D.Depot.held l.fn.depot).files l.fn.under l.last l.files;
 }
