@@ -1,0 +1,96 @@
+//! A file in whose place another one comes between the look at it and its opening.
+use super::*;
+use depot_api::{Depot, Small};
+use depot_files::FileDepot;
+use std::alloc::Allocator;
+use std::fs::{File, Metadata, OpenOptions};
+use std::io;
+use std::path::PathBuf;
+use std::rt::Files;
+
+const SWAPS: [&str; 3] = ["../../outside/secret", "../a/b.c", "nowhere"];
+
+#[test]
+fn a_link_in_the_place_of_a_file_is_a_fault(rt: HostRuntime) -> Result<(), Fail> {
+    for held in SWAPS {
+        make(&rt, "swaps")?;
+        assert!(rt; fails_over(&rt, held)?, "{held}");
+    }
+    remove(&rt, "swaps")
+}
+
+// Whether a small file is a fault that a link is put over just before it is opened.
+fn fails_over(rt: &HostRuntime, held: &str) -> Result<bool, Fail> {
+    let at = path(rt.alloc(), "out/x")?;
+    let mut depot = FileDepot::open(Swapping { rt, held }, "swaps/root")?;
+    let small = depot.read_small(rt.alloc(), &at, 9);
+    Ok(matches!(small, Err(Refused::Failed)) && depot.faults() == 1)
+}
+
+/// A system that puts a link over each file that is opened.
+#[derive(Drop)]
+struct Swapping<'a> {
+    rt: &'a HostRuntime,
+    /// What the link holds.
+    held: &'a str,
+}
+
+impl Alloc for Swapping<'_> {
+    type A = Global;
+
+    fn alloc(&self) -> Global {
+        self.rt.alloc()
+    }
+}
+
+impl Files for Swapping<'_> {
+    type File = File;
+
+    type Dir = <HostRuntime as Files>::Dir;
+
+    fn open_file(&self, how: &OpenOptions, path: &str) -> io::Result<File> {
+        symlink(self.rt, self.held, "swaps/link")?;
+        self.rt.rename("swaps/link", path)?;
+        self.rt.open_file(how, path)
+    }
+
+    fn open_dir(&self, path: &str) -> io::Result<Self::Dir> {
+        self.rt.open_dir(path)
+    }
+
+    fn metadata(&self, path: &str) -> io::Result<Metadata> {
+        self.rt.metadata(path)
+    }
+
+    fn symlink_metadata(&self, path: &str) -> io::Result<Metadata> {
+        self.rt.symlink_metadata(path)
+    }
+
+    fn copy(&self, from: &str, to: &str) -> io::Result<u64> {
+        self.rt.copy(from, to)
+    }
+
+    fn rename(&self, from: &str, to: &str) -> io::Result<()> {
+        self.rt.rename(from, to)
+    }
+
+    fn remove_file(&self, path: &str) -> io::Result<()> {
+        self.rt.remove_file(path)
+    }
+
+    fn create_dir(&self, path: &str) -> io::Result<()> {
+        self.rt.create_dir(path)
+    }
+
+    fn remove_dir(&self, path: &str) -> io::Result<()> {
+        self.rt.remove_dir(path)
+    }
+
+    fn remove_dir_all<B: Allocator>(&self, alloc: B, path: &str) -> io::Result<()> {
+        self.rt.remove_dir_all(alloc, path)
+    }
+
+    fn canonicalize<B: Allocator>(&self, alloc: B, path: &str) -> io::Result<PathBuf<B>> {
+        self.rt.canonicalize(alloc, path)
+    }
+}
