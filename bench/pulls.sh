@@ -1,9 +1,10 @@
 #!/usr/bin/env bash
 # Pulls through `once`: a blob of 200 MB, as a ratio to `cat` and with the memory it takes; manifests of 64, 512 and 4,096 KB
 # by tag; a manifest by tag from a repository of 10 and of 10,000 tags; the lists of 1,000 and of 10,000 tags, each of which
-# has pointed to one manifest, and of 1,000 that have pointed to ten. Each time is the best of five runs.
+# has pointed to one manifest, of 1,000 that have pointed to ten, of 10,000 that point to ten manifests, and of 100 that point to
+# one of 4 MB. Each time is the best of five runs. Where strace is installed, prints how many system calls a tag takes.
 # Ends with status 1 where a reply is not 200 with its content; where the blob is sent at less than half the speed of `cat`;
-# or where that takes 12 MB of memory or more.
+# where that takes 12 MB of memory or more; or where a list of 100 tags takes more than 1.5 times that of one.
 # The folders are made below a temporary directory and are removed at the end. Build the program first: `make demo`.
 #     bench/pulls.sh PROGRAM [MEGABYTES [TAGS]]
 # shellcheck source=bench/timing.sh
@@ -37,7 +38,7 @@ def put_blob(depot, content):
 def put_tag(depot, tag, digits, earlier=()):
     folder = f"repositories/a/_manifests/tags/{tag}"
     put(depot, f"{folder}/current/link", f"sha256:{digits}".encode())
-    for one in (digits, *earlier):
+    for one in earlier:
         put(depot, f"{folder}/index/sha256/{one}/link", f"sha256:{one}".encode())
 
 def ask(name, target):
@@ -58,18 +59,34 @@ for kilobytes in 64, 512, 4_096:
     content = manifest.ljust(kilobytes << 10)
     digits = put_blob("manifests", content)
     put("manifests", f"repositories/a/_manifests/revisions/sha256/{digits}/link", f"sha256:{digits}".encode())
-    put_tag("manifests", f"kb{kilobytes}", digits)
+    put_tag("manifests", f"kb{kilobytes}", digits, [digits])
     write(f"{work}/manifest-{kilobytes}", content)
     ask(f"pull-{kilobytes}", f"manifests/kb{kilobytes}")
 
 # Repositories of so many tags, all for the sample's manifest now.
 others = [hashlib.sha256(str(n).encode()).hexdigest() for n in range(9)]
-for depot, count, earlier in ("few", 10, []), ("tenth", tags // 10, []), ("all", tags, []), ("moved", tags // 10, others):
-    shutil.copytree(sample, f"{work}/{depot}")
-    names = ["v1"] + [f"w{n}" for n in range(count - 1)]
-    for name in names:
-        put_tag(depot, name, m1, earlier)
+def put_tags(depot, names, targets, earlier):
+    shutil.rmtree(f"{work}/{depot}/{top}/repositories/a/_manifests/tags", ignore_errors=True)
+    for n, name in enumerate(names):
+        put_tag(depot, name, targets[n % len(targets)], earlier)
     write(f"{work}/list-{depot}", json.dumps({"name": "a", "tags": sorted(names)}, separators=(",", ":")).encode())
+
+for depot, count, earlier in (("few", 10, [m1]), ("tenth", tags // 10, [m1]), ("all", tags, [m1]), ("bare", tags, []),
+                              ("moved", tags // 10, [m1, *others])):
+    shutil.copytree(sample, f"{work}/{depot}")
+    put_tags(depot, ["v1"] + [f"w{n}" for n in range(count - 1)], [m1], earlier)
+
+# Repositories of tags for ten manifests, and for one of 4 MB.
+def put_manifests(depot, contents):
+    targets = []
+    for content in contents:
+        targets.append(put_blob(depot, content))
+        put(depot, f"repositories/a/_manifests/revisions/sha256/{targets[-1]}/link", f"sha256:{targets[-1]}".encode())
+    return targets
+
+for depot, count, contents in (("ten", tags, [manifest.ljust(512 + n) for n in range(10)]), ("one-of-ten", 1, [manifest.ljust(512)]),
+                               ("large", 100, [manifest.ljust(4 << 20)]), ("one-large", 1, [manifest.ljust(4 << 20)])):
+    put_tags(depot, [f"w{n}" for n in range(count)], put_manifests(depot, contents), [])
 ask("pull-tag", "manifests/v1")
 ask("list-tags", "tags/list")
 PYTHON
@@ -130,7 +147,7 @@ many=$(best_time once all pull-tag)
 awk -v n="$tags" -v f="$few" -v m="$many" \
     'BEGIN { printf "manifest by tag: %.2f ms among 10 tags, %.2f ms among %d, %.2f times\n", f / 1000, m / 1000, n, m / f }'
 
-for depot in tenth all moved; do
+for depot in tenth all bare moved ten one-of-ten large one-large; do
     expect "$depot" list-tags "list-$depot"
 done
 short=$(best_time once tenth list-tags)
@@ -140,3 +157,22 @@ awk -v n="$tenth" -v all="$tags" -v s="$short" -v l="$long" -v m="$moved" 'BEGIN
     printf "tags: %.1f us a tag of %d, %.1f us a tag of %d, %.2f times\n", s / n, n, l / all, all, l * n / s / all
     printf "tags that have pointed to ten manifests: %.1f us a tag of %d\n", m / n, n
 }'
+
+# Prints how long a list takes, and its ratio to one of a single tag.
+beside_one() {
+    local list one
+    list=$(best_time once "$1" list-tags)
+    one=$(best_time once "$2" list-tags)
+    awk -v w="$3" -v l="$list" -v o="$one" 'BEGIN { printf "%s: %.1f ms, %.2f times one tag\n", w, l / 1000, l / o }'
+    if [ "$1" = large ]; then
+        at_most 1 "$list" $((one + one / 2)) || fail "a list of one manifest takes more than 1.5 times that of one tag"
+    fi
+}
+beside_one ten one-of-ten "$tags tags on ten manifests"
+beside_one large one-large "100 tags on one manifest of 4 MB"
+
+for depot in bare all; do
+    calls=$(system_calls once "$depot" list-tags) || fail "no system calls were counted"
+    [ -z "$calls" ] || awk -v d="$depot" -v n="$tags" -v c="$calls" \
+        'BEGIN { printf "%.1f system calls a tag of %d %s\n", c / n, n, d == "bare" ? "without index folders" : "with one each" }'
+done

@@ -32,6 +32,21 @@ best_time() {
     done | least
 }
 
+# The least processor time of five runs of a command, in microseconds. A run that fails ends it.
+best_processor_time() {
+    local TIMEFORMAT='%U %S'
+    for _ in 1 2 3 4 5; do
+        { time "$@" > /dev/null; } 2>&1 || return 1
+    done | awk '{ printf "%d\n", ($1 + $2) * 1e6 }' | least
+}
+
+# How many system calls a command makes, and nothing where there is no strace to count them.
+system_calls() {
+    command -v strace > /dev/null || return 0
+    strace -f -c -o "$work/calls" "$@" > /dev/null || return 1
+    awk '$4 ~ /^[0-9]+$/ && $NF != "total" { n += $4 } END { print n }' "$work/calls"
+}
+
 # Whether so many of one number are at most another: `at_most 0.5 "$a" "$b"` where a / 2 <= b.
 at_most() { awk -v k="$1" -v a="$2" -v b="$3" 'BEGIN { exit !(k * a <= b) }'; }
 
