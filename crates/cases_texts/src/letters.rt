@@ -49,9 +49,9 @@ impl Letters {
 
     // Puts what stands behind a backslash, and tells whether it may stand there.
     fn put(&self, bytes: &mut Vec<u8>, piece: &str) -> Result<bool, NoMemory> {
-        if let Some((byte, plain)) = spelled_byte(piece) {
+        if let Some((byte, plain)) = spelled_byte(piece.as_bytes()) {
             bytes.push(byte)?;
-            bytes.extend_from_slice(plain.as_bytes())?;
+            bytes.extend_from_slice(plain)?;
             return Ok(true);
         }
         let Some((times, letter, plain)) = repeated_letter(piece) else {
@@ -69,9 +69,13 @@ impl Letters {
 }
 
 // The byte of `xNN`, and what stands behind it.
-fn spelled_byte(piece: &str) -> Option<(u8, &str)> {
-    let (digits, plain) = piece.strip_prefix('x')?.split_at_checked(2)?;
-    Some((u8::from_str_radix(digits, 16).ok()?, plain))
+fn spelled_byte(piece: &[u8]) -> Option<(u8, &[u8])> {
+    let [b'x', high, low, plain @ ..] = piece else {
+        return None;
+    };
+    let mut byte = [0];
+    hex::decode_to_slice(&[*high, *low], &mut byte).ok()?;
+    Some((byte[0], plain))
 }
 
 // How often a letter stands there, the letter, and what stands behind it.

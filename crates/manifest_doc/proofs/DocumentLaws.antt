@@ -80,8 +80,8 @@ pub record WasRead (d : Data) (doc : Doc) : Type 0 where
   pub named : AreNamed config layers doc.named
   pub children : AreChildren manifests doc.children
 
-pub document_of : (d : Data) (doc : Doc) → WasRead d doc → IsObjectDocument d doc
-document_of d doc w =
+pub document_as_read : (d : Data) (doc : Doc) → WasRead d doc → IsObjectDocument d doc
+document_as_read d doc w =
     let c = read_config (get (codes "config") d) w.config w.config_is in
     record {
       kind = passed (kind_of_object d) doc.kind (is_small d) (option_map_or is_descriptor (get (codes "config") d) true) (list_all is_descriptor (elements (codes "layers") d)) (list_all is_descriptor (elements (codes "manifests") d)) w.kind_is w.small c.0 (sym (ap (list_all is_descriptor) w.layers_from) ∙ w.layers_all) (sym (ap (list_all is_descriptor) w.manifests_from) ∙ w.manifests_all);

@@ -1,10 +1,10 @@
 use Rattle.std.proofs.Common.{sym, ◌∙◌, map}
 use Rattle.serde_json.specs.View.{view}
-use Rattle.manifest_doc.proofs.DocumentLaws.{document_of}
+use Rattle.manifest_doc.proofs.DocumentLaws.{document_as_read}
 use Rattle.manifest_doc.proofs.document.read_members.Goals as goal
 
 pub returns-clause-ok : goal.returns-clause-ok
-returns-clause-ok c = document_of (view c.args.object.now) _ record {
+returns-clause-ok c = document_as_read (view c.args.object.now) _ record {
   config = c.in_ok-config.config;
   layer_values = map view c.elements.result.now;
   manifest_values = map view c.elements-2.result.now;
