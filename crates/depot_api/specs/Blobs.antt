@@ -11,7 +11,7 @@ pub record Rest : Type 0 where
 abbrev pub CountsRest : Rest → Type 0
 CountsRest rest = IsTrue rest.tells → rest.count ≡ length rest.bytes
 
--- a read gave no more than fits into the buffer and is left, one byte at least where both are there, and left as many fewer
+-- a read gave no more than fits into the buffer and is left, one byte at least where there is both, and left the others
 abbrev pub ReadsSome : {E : Type 0} → ℕ → Rest → Rest → Result ℕ E → Type 0
 ReadsSome size before now (Ok n) = (n ≤ size) × (now.count + n ≡ before.count) × (0 < size → 0 < before.count → 0 < n)
 ReadsSome size before now (Err e) = now.count ≡ before.count

@@ -22,7 +22,8 @@ one_more n = if nat_lt (n + 1) (2 ^ 64) then n + 1 else n
 
 -- one call more, which failed or did not
 abbrev pub with_call : Calls → Bool → Calls
-with_call calls failed = record calls { made = one_more calls.made; faults = if failed then one_more calls.faults else calls.faults }
+with_call calls failed =
+    record calls { made = one_more calls.made; faults = if failed then one_more calls.faults else calls.faults }
 
 -- one fault more, which is no call, or none
 abbrev pub with_fault : Calls → Bool → Calls

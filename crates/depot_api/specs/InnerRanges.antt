@@ -8,4 +8,5 @@ use Rattle.depot_api.specs.Pages.{is_after}
 
 -- a range starts at the paths that are above `after` and not below `under`
 abbrev pub StartsAt : Bound (List (List ℕ)) → List (List ℕ) → Option (List (List ℕ)) → Type 0
-StartsAt lo under after = (q : List (List ℕ)) → is_from_start path_cmp lo q ≡ (is_le (path_cmp under q) && is_after after q)
+StartsAt lo under after =
+    (q : List (List ℕ)) → is_from_start path_cmp lo q ≡ (is_le (path_cmp under q) && is_after after q)

@@ -17,8 +17,8 @@ with_all files (entry ∷ rest) = with_all (with_at files entry.0 (Some entry.1)
 abbrev pub files_of : List (List (List ℕ) × List ℕ) → Files
 files_of entries = with_all no_files entries
 
--- how many of so many bytes read number k gives into a buffer of that size: at most the larger of 1 and the piece of its
--- number, where there is one
+-- how many of so many bytes read number k gives into a buffer of that size: at most the larger of 1 and the piece of
+-- its number, where there is one
 abbrev pub read_length : List ℕ → ℕ → ℕ → ℕ → ℕ
 read_length pieces k left size =
     min (min left size) (option_map_or (λ piece. max 1 piece) (slice_get pieces k) left)

@@ -7,7 +7,7 @@ use Rattle.std.specs.Ordering.{nat_cmp, is_lt}
 use Rattle.std.specs.Cmp.Lexicographic.{slice_cmp, texts_ties, same_text}
 use Rattle.std.proofs.lemmas.Bool.{and_parts}
 use Rattle.reg_names.specs.Names.{IsName, is_name}
-use Rattle.reg_names.specs.Digests.{IsDigest, digest_text, digest_named}
+use Rattle.reg_names.specs.Digests.{IsDigest, digest_named}
 use Rattle.reg_names.specs.Tags.{IsTag, is_tag}
 use Rattle.reg_names.specs.Reading.{ReadsBack}
 use Rattle.depot_api.specs.Files.{Files}
@@ -19,7 +19,6 @@ use Rattle.link_paths.specs.Folders.{digest_link, layers_folder, revisions_folde
 use Rattle.link_paths.proofs.ApartPlaces.{same_place}
 use Rattle.link_paths.proofs.FolderPlaces.{layer_begins, revision_begins, tag_begins}
 use Rattle.link_paths.proofs.PathOrder.{layers_in_order, revisions_in_order}
-use Rattle.reg_entries.specs.Documents.{KeptManifest}
 use Rattle.reg_entries.specs.State.{State, lists_child}
 use Rattle.reg_entries.specs.Listing.{is_behind}
 use Rattle.link_reading.specs.declared.links_below.Wanted.{Wanted}

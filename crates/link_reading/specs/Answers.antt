@@ -20,7 +20,8 @@ FindsManifest files name digest None = (Means files).manifests name digest ≡ N
 
 -- the manifest that a tag of the repository points to, or that the tag means nothing
 abbrev pub FindsTagged : Files → List ℕ → List ℕ → Option StoredManifest → Type 0
-FindsTagged files name tag (Some m) = ((Means files).tags name tag ≡ Some m.digest) × HasManifest files name m.digest m.doc m.bytes
+FindsTagged files name tag (Some m) =
+    ((Means files).tags name tag ≡ Some m.digest) × HasManifest files name m.digest m.doc m.bytes
 FindsTagged files name tag None = (Means files).tags name tag ≡ None
 
 -- whether a repository is known

@@ -1,9 +1,9 @@
 -- The proof's own: no public clause cites what stands here.
 -- What is looked for among the links of a repository.
-use Rattle.std.specs.Prelude.{◌≡◌, ℕ, Bool, false, ◌&&◌, nat_eq, if◌then◌else◌, List, Option, Some, None, IsTrue, is_some}
+use Rattle.std.specs.Prelude.{◌≡◌, ℕ, Bool, false, ◌&&◌, if◌then◌else◌, List, Option, Some, None, IsTrue, is_some}
 use Rattle.std.specs.BTreeMap.{is_at}
 use Rattle.std.specs.Ordering.{nat_cmp, is_lt}
-use Rattle.std.specs.Cmp.Lexicographic.{pointwise, slice_cmp}
+use Rattle.std.specs.Cmp.Lexicographic.{slice_cmp}
 use Rattle.depot_api.specs.Files.{Files}
 use Rattle.link_paths.specs.Places.{layer_path, revision_path, tag_path}
 use Rattle.link_paths.specs.Folders.{layers_folder, revisions_folder}
@@ -33,7 +33,8 @@ links_folder name Manifest = revisions_folder name
 links_folder name (ListerOf child) = revisions_folder name
 
 abbrev pub link_quest : List ℕ → Wanted → Quest (List ℕ)
-link_quest name wanted = record { place = link_path name wanted; wanted = λ files digest. wants (Means files) name wanted digest }
+link_quest name wanted =
+    record { place = link_path name wanted; wanted = λ files digest. wants (Means files) name wanted digest }
 
 -- the least digest that is wanted, or that none is
 abbrev pub IsLeastWanted : State → List ℕ → Wanted → Option (List ℕ) → Type 0
@@ -44,11 +45,13 @@ IsLeastWanted state name wanted None = (digest : List ℕ) → wants state name 
 
 -- a tag is listed where it is behind the text that is given, and means something
 abbrev pub tag_quest : List ℕ → Option (List ℕ) → Quest (List ℕ)
-tag_quest name last = record { place = tag_path name; wanted = λ files tag. is_behind last tag && is_some ((Means files).tags name tag) }
+tag_quest name last =
+    record { place = tag_path name; wanted = λ files tag. is_behind last tag && is_some ((Means files).tags name tag) }
 
 -- what was noted of digests is so: whether the repository has a manifest under each
 abbrev pub AreNoted : Files → List ℕ → (List ℕ → Option Bool) → Type 0
-AreNoted files name noted = (digest : List ℕ) (has : Bool) → noted digest ≡ Some has → is_some ((Means files).manifests name digest) ≡ has
+AreNoted files name noted =
+    (digest : List ℕ) (has : Bool) → noted digest ≡ Some has → is_some ((Means files).manifests name digest) ≡ has
 
 -- one digest more was noted
 abbrev pub with_note : (List ℕ → Option Bool) → List ℕ → Bool → List ℕ → Option Bool

@@ -22,7 +22,8 @@ IsReady files spot = AreNext files spot.folder spot.after spot.left
 
 -- the path of the next file, behind which those that are left follow, or that there is none
 abbrev pub PassesOn : Files → Spot → List (List (List ℕ)) → Option (List (List ℕ)) → Type 0
-PassesOn files spot left (Some p) = IsNextPath files spot.folder spot.after (Some p) × AreNext files spot.folder (Some p) left
+PassesOn files spot left (Some p) =
+    IsNextPath files spot.folder spot.after (Some p) × AreNext files spot.folder (Some p) left
 PassesOn files spot left None = IsNextPath files spot.folder spot.after None
 
 -- what is looked for: where each thing lies, and whether it is wanted by the files
@@ -36,9 +37,11 @@ LiesAt {V} quest files path (Some v) = (quest.place v ≡ path) × IsTrue (quest
 LiesAt {V} quest files path None = (v : V) → quest.place v ≡ path → quest.wanted files v ≡ false
 
 -- no file below a folder and behind a path is that of a thing that is wanted and lies at such a path
-abbrev pub NoneWanted : {V : Type 0} → Quest V → Files → List (List ℕ) → Option (List (List ℕ)) → (List (List ℕ) → Type 0) → Type 0
+abbrev pub NoneWanted : {V : Type 0} → Quest V → Files → List (List ℕ) → Option (List (List ℕ))
+    → (List (List ℕ) → Type 0) → Type 0
 NoneWanted {V} quest files folder after Lies =
-    (v : V) → IsAsked folder after (quest.place v) → Lies (quest.place v) → IsSome (files (quest.place v)) → quest.wanted files v ≡ false
+    (v : V) → IsAsked folder after (quest.place v) → Lies (quest.place v) → IsSome (files (quest.place v))
+    → quest.wanted files v ≡ false
 
 -- the first that is wanted below a folder and behind a path, or that nothing is
 abbrev pub IsFirst : {V : Type 0} → Quest V → Files → List (List ℕ) → Option (List (List ℕ)) → Option V → Type 0

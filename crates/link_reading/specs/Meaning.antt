@@ -1,5 +1,5 @@
 -- What files mean: the manifests, links and tags that the repositories of a registry have by its link files.
-use Rattle.std.specs.Prelude.{◌≡◌, ℕ, Bool, false, ◌&&◌, nat_eq, nat_le, if◌then◌else◌, List, length, Option, Some, None, IsSome, is_some, option_map, option_and_then}
+use Rattle.std.specs.Prelude.{◌≡◌, ℕ, Bool, false, ◌&&◌, nat_eq, if◌then◌else◌, List, length, Option, Some, None, IsSome, is_some, option_map, option_and_then}
 use Rattle.std.specs.Option.{option_map_or}
 use Rattle.std.specs.Cmp.Lexicographic.{pointwise}
 use Rattle.reg_names.specs.Names.{is_name}
@@ -37,12 +37,14 @@ manifest_in digest bytes = option_map (kept (length bytes)) (stored_in digest by
 -- the size of a blob that a repository has: its link holds the digest's text, and the digest's data file is there
 abbrev pub link_at : Files → List ℕ → List ℕ → Option ℕ
 link_at files name digest =
-    if is_name name && links_to (files (layer_path name digest)) digest then option_map length (data_at files digest) else None
+    if is_name name && links_to (files (layer_path name digest)) digest
+    then option_map length (data_at files digest) else None
 
 -- the manifest that a repository has under a digest: its link holds the digest's text, and the data file is a manifest
 abbrev pub manifest_at : Files → List ℕ → List ℕ → Option KeptManifest
 manifest_at files name digest =
-    if is_name name && links_to (files (revision_path name digest)) digest then option_and_then (manifest_in digest) (data_at files digest) else None
+    if is_name name && links_to (files (revision_path name digest)) digest
+    then option_and_then (manifest_in digest) (data_at files digest) else None
 
 -- a digest under which the repository has a manifest
 abbrev pub only_manifest : Files → List ℕ → List ℕ → Option (List ℕ)
@@ -51,7 +53,8 @@ only_manifest files name digest = if is_some (manifest_at files name digest) the
 -- the digest that a tag points to: its link holds the text of a digest, under which the repository has a manifest
 abbrev pub target_at : Files → List ℕ → List ℕ → Option (List ℕ)
 target_at files name tag =
-    if is_name name && is_tag tag then option_and_then (only_manifest files name) (option_and_then digest_named (files (tag_path name tag))) else None
+    if is_name name && is_tag tag
+    then option_and_then (only_manifest files name) (option_and_then digest_named (files (tag_path name tag))) else None
 
 -- what the files mean
 abbrev pub Means : Files → State

@@ -54,7 +54,8 @@ pub fn short_file<D: Depot>(
     at: &Path,
     most: u64,
 ) -> Result<Option<Bytes>, Refused>
-    ensures value { Finds (D.held depot.old) result (λ files bytes. bytes ≡ short most (files at.now)) }
+    ensures value { Finds (D.held depot.old) result (λ files bytes.
+        bytes ≡ short most (files at.now)) }
     ensures most { IfFound result (λ bytes. length bytes ≤ most) }
     ensures reads { OnlyReads D.held D.faults depot.old depot.new (HasFailed result) }
 {

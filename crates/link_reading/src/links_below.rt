@@ -74,7 +74,8 @@ struct Links {
 impl Links {
     // The digest of the link at a path.
     fn digest_at(&self, alloc: Global, path: &Path) -> Result<Option<Digest>, NoMemory>
-        ensures digest { IfOk result (ReadsBack IsDigest (link_path self.now.name self.now.wanted) path.now) }
+        ensures digest { IfOk result
+            (ReadsBack IsDigest (link_path self.now.name self.now.wanted) path.now) }
         ensures name { IsName self.now.name }
     {
         let _name = self.name.as_str();

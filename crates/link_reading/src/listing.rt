@@ -114,7 +114,8 @@ impl TagLinks {
     fn of(alloc: Global, name: &Name, last: Option<&Text>) -> Result<TagLinks, NoMemory>
         ensures name { IfOk result (λ links. links.name ≡ name.now) }
         ensures last { IfOk result (λ links. links.last ≡ option_copied last.entry) }
-        ensures none { IfOk result (λ links. (digest : _) → tree.get (slice_cmp nat_cmp) links.noted digest ≡ None) }
+        ensures none { IfOk result (λ links.
+            (digest : _) → tree.get (slice_cmp nat_cmp) links.noted digest ≡ None) }
     {
         Ok(TagLinks {
             name: name.copy(alloc)?,

@@ -70,7 +70,8 @@ pub fn manifest<D: Depot>(
     name: &Name,
     digest: &Digest,
 ) -> Result<Option<(Doc, Bytes)>, Refused>
-    ensures value { Finds (D.held depot.old) result (λ files. FindsManifest files name.now digest.now) }
+    ensures value { Finds (D.held depot.old) result (λ files.
+        FindsManifest files name.now digest.now) }
     ensures verified { IfFound result (λ m. IsStoredManifest digest.now m.1 m.0) }
     ensures reads { OnlyReads D.held D.faults depot.old depot.new (HasFailed result) }
 {

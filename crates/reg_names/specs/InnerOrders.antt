@@ -10,5 +10,7 @@ pub texts_partial_order : IsPartialOrder (pointwise nat_eq) (as_partial_cmp (sli
 texts_partial_order = partial_order_from_own_ties (partial_order_from_total nat_list_cmp_total) texts_ties
 
 -- that of values by their texts
-pub on_texts_partial_order : {K : Type 0} (f : K → List ℕ) → IsPartialOrder (on f (pointwise nat_eq)) (as_partial_cmp (on f (slice_cmp nat_cmp)))
-on_texts_partial_order f = partial_order_from_own_ties (partial_order_from_total (on_texts f)) (λ x y. texts_ties (f x) (f y))
+pub on_texts_partial_order : {K : Type 0} (f : K → List ℕ)
+    → IsPartialOrder (on f (pointwise nat_eq)) (as_partial_cmp (on f (slice_cmp nat_cmp)))
+on_texts_partial_order f =
+    partial_order_from_own_ties (partial_order_from_total (on_texts f)) (λ x y. texts_ties (f x) (f y))

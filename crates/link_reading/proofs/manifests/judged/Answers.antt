@@ -1,4 +1,4 @@
-use Rattle.std.proofs.Common.{Some, sym, ap, ◌∙◌}
+use Rattle.std.proofs.Common.{sym, ap, ◌∙◌}
 use Rattle.manifest_doc.specs.Stored.{stored_in}
 use Rattle.manifest_doc.proofs.StoredLaws.{stored_computed}
 use Rattle.link_reading.proofs.manifests.judged.Goals as goal

@@ -1,4 +1,4 @@
-use Rattle.std.proofs.Common.{None, Some, sym, subst}
+use Rattle.std.proofs.Common.{sym, subst}
 use Rattle.reg_names.specs.Digests.{IsDigest}
 use Rattle.reg_names.specs.Reading.{ReadsBack}
 use Rattle.link_reading.specs.InnerLinks.{link_path, link_quest}

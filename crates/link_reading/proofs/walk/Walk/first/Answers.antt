@@ -1,4 +1,4 @@
-use Rattle.std.proofs.Common.{◌≡◌, ◌≤◌, None, Some, sym, subst, ◌∙◌, arith}
+use Rattle.std.proofs.Common.{None, Some, sym, subst, ◌∙◌, arith}
 use Rattle.std.specs.Vec.Iter.{into_iter_items}
 use Rattle.depot_api.specs.Pages.{IsNextPath}
 use Rattle.link_reading.specs.InnerSpots.{spot}
