@@ -35,13 +35,13 @@ impl Letters {
     /// The bytes that a text stands for, and `None` where a backslash does not begin what it may.
     pub fn expand(&self, alloc: Global, text: &str) -> Result<Option<Vec<u8>>, NoMemory> {
         let mut bytes = Vec::new(alloc);
-        let (plain, spelled) = text.split_once('\\').unwrap_or((text, ""));
-        bytes.extend_from_slice(plain.as_bytes())?;
-        if plain.len() < text.len() {
-            for piece in spelled.split('\\') {
-                if !self.put(&mut bytes, piece)? {
-                    return Ok(None);
-                }
+        let mut pieces = text.split('\\');
+        if let Some(plain) = pieces.next() {
+            bytes.extend_from_slice(plain.as_bytes())?;
+        }
+        for piece in pieces {
+            if !self.put(&mut bytes, piece)? {
+                return Ok(None);
             }
         }
         Ok(Some(bytes))

@@ -8,7 +8,7 @@ use reg_names::{Digest, DigestList, Kind, Named, NamedList};
 use std::marker::Model;
 
 /// The most digests of a list.
-const LIST_LIMIT: usize = 65_535;
+pub const LIST_LIMIT: usize = 65_535;
 
 /// What a state keeps of a manifest. Both lists ascend strictly by digest, and have at most 65,535 entries: a list is
 /// spelled with a count of two bytes where a state is written.

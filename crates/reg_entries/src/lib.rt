@@ -8,6 +8,6 @@
 mod document;
 mod laws;
 
-pub use document::Document;
+pub use document::{Document, LIST_LIMIT};
 pub use laws::{listings_agree, tags_that_follow_are_all};
 pub use reg_names::{DigestList, Kind, Named, NamedList, Tags};
