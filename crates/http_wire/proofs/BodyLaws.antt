@@ -9,7 +9,7 @@ use Rattle.http_wire.specs.declared.body.BodyState.{BodyState}
 use Rattle.http_wire.specs.declared.body.BodyState.TheVariants as states
 use Rattle.http_wire.specs.declared.body.Piece.{Piece}
 use Rattle.http_wire.specs.declared.body.Piece.TheVariants as pieces
-use Rattle.http_wire.specs.Bodies.{IsGap, print_gap, IsSection, print_trailer, after_size, Passes, IsBad, IsCut, Outcome, ends_before, is_cut_short, is_malformed, Goes, Stops, Runs, stops, goes, due, less, Skips, stays, skips}
+use Rattle.http_wire.specs.Bodies.{IsGap, print_gap, IsSection, print_trailer, after_size, Passes, IsBadAt, IsCutAt, Outcome, ends_before, is_cut_short, is_malformed, Goes, Stops, Runs, stops, goes, due, less, Skips, stays, skips}
 use Rattle.http_wire.proofs.PieceLaws.{HasPiece-append, IsBadPiece-append, piece_not_bad, piece_not_cut, bad_not_cut}
 
 -- ---- what follows does not change a piece
@@ -19,24 +19,24 @@ Passes-append pieces.Gap bytes next rest more (has, is) = (HasPiece-append IsGap
 Passes-append pieces.Line bytes next rest more (line, has, is) = (line, HasPiece-append IsChunkLine print_chunk_line 1024 bytes line rest more has, is)
 Passes-append pieces.Trailer bytes next rest more (section, has, is) = (section, HasPiece-append IsSection print_trailer 16384 bytes section rest more has, is)
 
-pub IsBad-append : (piece : Piece) (bytes more : List ℕ) → IsBad piece bytes → IsBad piece (bytes ++ more)
-IsBad-append pieces.Gap bytes more x = IsBadPiece-append IsGap print_gap 2 bytes more x
-IsBad-append pieces.Line bytes more x = IsBadPiece-append IsChunkLine print_chunk_line 1024 bytes more x
-IsBad-append pieces.Trailer bytes more x = IsBadPiece-append IsSection print_trailer 16384 bytes more x
+pub IsBadAt-append : (piece : Piece) (bytes more : List ℕ) → IsBadAt piece bytes → IsBadAt piece (bytes ++ more)
+IsBadAt-append pieces.Gap bytes more x = IsBadPiece-append IsGap print_gap 2 bytes more x
+IsBadAt-append pieces.Line bytes more x = IsBadPiece-append IsChunkLine print_chunk_line 1024 bytes more x
+IsBadAt-append pieces.Trailer bytes more x = IsBadPiece-append IsSection print_trailer 16384 bytes more x
 
 -- ---- one thing at most holds of a piece
 
-passes_not_bad : (piece : Piece) (bytes : List ℕ) (next : BodyState) (rest : List ℕ) → Passes piece bytes next rest → IsBad piece bytes → ⊥
+passes_not_bad : (piece : Piece) (bytes : List ℕ) (next : BodyState) (rest : List ℕ) → Passes piece bytes next rest → IsBadAt piece bytes → ⊥
 passes_not_bad pieces.Gap bytes next rest (has, is) bad = piece_not_bad IsGap print_gap 2 bytes tt rest has bad
 passes_not_bad pieces.Line bytes next rest (line, has, is) bad = piece_not_bad IsChunkLine print_chunk_line 1024 bytes line rest has bad
 passes_not_bad pieces.Trailer bytes next rest (section, has, is) bad = piece_not_bad IsSection print_trailer 16384 bytes section rest has bad
 
-passes_not_cut : (piece : Piece) (bytes : List ℕ) (next : BodyState) (rest : List ℕ) → Passes piece bytes next rest → IsCut piece bytes → ⊥
+passes_not_cut : (piece : Piece) (bytes : List ℕ) (next : BodyState) (rest : List ℕ) → Passes piece bytes next rest → IsCutAt piece bytes → ⊥
 passes_not_cut pieces.Gap bytes next rest (has, is) cut = piece_not_cut IsGap print_gap 2 bytes tt rest has cut
 passes_not_cut pieces.Line bytes next rest (line, has, is) cut = piece_not_cut IsChunkLine print_chunk_line 1024 bytes line rest has cut
 passes_not_cut pieces.Trailer bytes next rest (section, has, is) cut = piece_not_cut IsSection print_trailer 16384 bytes section rest has cut
 
-one_not_cut : (piece : Piece) (bytes : List ℕ) → IsBad piece bytes → IsCut piece bytes → ⊥
+one_not_cut : (piece : Piece) (bytes : List ℕ) → IsBadAt piece bytes → IsCutAt piece bytes → ⊥
 one_not_cut pieces.Gap bytes bad cut = bad_not_cut IsGap print_gap 2 bytes bad cut
 one_not_cut pieces.Line bytes bad cut = bad_not_cut IsChunkLine print_chunk_line 1024 bytes bad cut
 one_not_cut pieces.Trailer bytes bad cut = bad_not_cut IsSection print_trailer 16384 bytes bad cut

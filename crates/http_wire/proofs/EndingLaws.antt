@@ -10,7 +10,7 @@ use Rattle.http_wire.specs.declared.body.Piece.TheVariants as pieces
 use Rattle.http_wire.specs.Heads.{Verdict, Holds, begins, is_nothing, is_cut, is_too_large}
 use Rattle.http_wire.specs.Heads as heads
 use Rattle.http_wire.specs.Messages.{Message, body_start, is_last, ReadsMessage, Ending, closed_before, is_complete, is_broken_off, is_no_message, has_large_head, Messages}
-use Rattle.http_wire.specs.Bodies.{Reads, HasPiece, IsBadPiece, IsCutPiece, IsGap, print_gap, IsSection, print_trailer, after_size, Passes, IsBad, IsCut, Outcome, ends_before, is_cut_short, is_malformed, Goes, Stops, Runs, stops, goes}
+use Rattle.http_wire.specs.Bodies.{Reads, HasPiece, IsBadPiece, IsCutPiece, IsGap, print_gap, IsSection, print_trailer, after_size, Passes, IsBadAt, IsCutAt, Outcome, ends_before, is_cut_short, is_malformed, Goes, Stops, Runs, stops, goes}
 use Rattle.http_wire.proofs.HeadLaws.{head_is_some}
 use Rattle.http_wire.proofs.FrontLaws.{has_verdict}
 use Rattle.http_wire.proofs.PieceLaws.{HasPiece-append}
@@ -64,10 +64,10 @@ fixed_ends n bytes = elim (cases_lt (length bytes) n) [
   | inr long ↦ ends_on (states.Fixed n) bytes states.Done (take n bytes) (drop n bytes) (long, refl, refl, refl) (done_ends (drop n bytes))
 ]
 
-bad_ends : (piece : Piece) (bytes : List ℕ) → IsBad piece bytes → Ends (states.Before piece) bytes
+bad_ends : (piece : Piece) (bytes : List ℕ) → IsBadAt piece bytes → Ends (states.Before piece) bytes
 bad_ends piece bytes x = ends_at (states.Before piece) bytes [] is_malformed (refl, inl (x, refl))
 
-cut_ends : (piece : Piece) (bytes : List ℕ) → IsCut piece bytes → Ends (states.Before piece) bytes
+cut_ends : (piece : Piece) (bytes : List ℕ) → IsCutAt piece bytes → Ends (states.Before piece) bytes
 cut_ends piece bytes x = ends_at (states.Before piece) bytes [] is_cut_short (refl, inr (x, refl))
 
 trailer_ends : (bytes : List ℕ) → Ends (states.Before pieces.Trailer) bytes

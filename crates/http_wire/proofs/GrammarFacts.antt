@@ -13,19 +13,19 @@ use Rattle.http_wire.specs.declared.body.BodyState.{BodyState}
 use Rattle.http_wire.specs.declared.body.BodyState.TheVariants as states
 use Rattle.http_wire.specs.declared.body.Piece.TheVariants as pieces
 use Rattle.http_wire.specs.declared.pieces.PieceJudged.TheVariants as judged
-use Rattle.http_wire.specs.Bodies.{Section, print_trailer, after_size, IsCut, IsBad}
-use Rattle.http_wire.specs.BodyAnswers.{JudgesPiece}
+use Rattle.http_wire.specs.Bodies.{Section, print_trailer, after_size, IsCutAt, IsBadAt}
+use Rattle.http_wire.specs.InnerPieces.{JudgesPiece}
 use Rattle.http_wire.proofs.HeadLaws.{end_is_some, fields_are_long}
 
 -- ---- the gap
 
-pub gap_open_at_none : (bytes : List ℕ) → length bytes < 1 → IsCut pieces.Gap bytes
+pub gap_open_at_none : (bytes : List ℕ) → length bytes < 1 → IsCutAt pieces.Gap bytes
 gap_open_at_none [] short = (omega arith, λ tree rest reads. absurd (cc (reads.1)), (13 ∷ 10 ∷ [], tt, [], (tt, refl)))
 gap_open_at_none (x ∷ bytes) short = absurd (omega arith)
 
-pub gap_open_at_cr : (bytes : List ℕ) → bytes ≡ 13 ∷ [] → IsCut pieces.Gap bytes
+pub gap_open_at_cr : (bytes : List ℕ) → bytes ≡ 13 ∷ [] → IsCutAt pieces.Gap bytes
 gap_open_at_cr bytes is =
-    subst (IsCut pieces.Gap) (sym is) (omega arith, λ tree rest reads. absurd (cc (reads.1)), (10 ∷ [], tt, [], (tt, refl)))
+    subst (IsCutAt pieces.Gap) (sym is) (omega arith, λ tree rest reads. absurd (cc (reads.1)), (10 ∷ [], tt, [], (tt, refl)))
 
 -- ---- the size line
 
@@ -60,7 +60,7 @@ trailer_passes bytes spans count n fields last at few =
       omega (arith, long, same, at.len_is),
     )
 
-pub trailer_open : (bytes : List ℕ) → length bytes < 16384 → HasNoSection bytes → MayBecomeSection bytes → IsCut pieces.Trailer bytes
+pub trailer_open : (bytes : List ℕ) → length bytes < 16384 → HasNoSection bytes → MayBecomeSection bytes → IsCutAt pieces.Trailer bytes
 trailer_open bytes short none may =
     (short, λ section rest reads. none section.0 section.1 rest reads, (may.0, (may.1, may.2), [], may.3))
 
@@ -78,7 +78,7 @@ never_exceeds bytes few (begin, rest, split, fields, reads, many) =
     )
 
 pub trailer_bad : (bytes : List ℕ) (room : ℕ) (e : Error) → length bytes ≤ 16384 → room ≡ 8192
-    → (e ≢ errors.TooManyHeaders → NeverHasSection bytes) → (e ≡ errors.TooManyHeaders → SectionExceeds room bytes) → IsBad pieces.Trailer bytes
+    → (e ≢ errors.TooManyHeaders → NeverHasSection bytes) → (e ≡ errors.TooManyHeaders → SectionExceeds room bytes) → IsBadAt pieces.Trailer bytes
 trailer_bad bytes room e few is_room invalid too_many =
     let never = invalid (λ same. never_exceeds bytes few (subst (λ (r : ℕ). SectionExceeds r bytes) is_room (too_many same))) in
     (bytes, [], sym (append-nil bytes), few, inl (λ more section rest reads. never more section.0 section.1 rest reads))

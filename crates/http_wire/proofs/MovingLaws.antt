@@ -1,39 +1,22 @@
 -- A reader of a body over a stream, from call to call.
-use Rattle.std.proofs.Common.{◌≡◌, ℕ, ◌<◌, ◌≤◌, ◌⊎◌, List, [], ◌++◌, length, length-take-le, refl, sym, ap, subst, ◌∙◌, arith, inl, inr, Option, Some, None}
-use Rattle.std.specs.Prelude.{⊤}
+use Rattle.std.proofs.Common.{◌≡◌, ℕ, ◌<◌, ◌≤◌, ◌⊎◌, List, [], take, length, length-take-le, refl, sym, ap, subst, ◌∙◌, arith, inl, inr, Option, Some, None, Ok, Err}
+use Rattle.std.specs.Prelude.{Result, IfOk, ⊤}
 use Rattle.http_wire.specs.declared.body.BodyState.{BodyState}
 use Rattle.http_wire.specs.declared.body.BodyState.TheVariants as states
 use Rattle.http_wire.specs.declared.body.Piece.{Piece}
 use Rattle.http_wire.specs.declared.body.Piece.TheVariants as pieces
 use Rattle.http_wire.specs.declared.body.BodyStep.{BodyStep}
 use Rattle.http_wire.specs.declared.body.BodyStep.TheVariants as steps
-use Rattle.http_wire.specs.declared.pieces.Taken.TheVariants as taken
-use Rattle.http_wire.specs.declared.reach.Reached.{Reached}
-use Rattle.http_wire.specs.declared.reach.Reached.TheVariants as reached
-use Rattle.http_wire.specs.Bodies.{is_cut_short, is_malformed, ends_before, Goes, Stops, due, less, Skips, stays, skips, Moves}
-use Rattle.http_wire.specs.BodyAnswers.{given, count_of, IsStopOf, IsOfData, CanStep, IsNoData, ReachesLength, CanReach, IsAfter, IsAtStop, GivesSome, Takes}
+use Rattle.http_wire.specs.declared.stop.Stop.{Stop}
+use Rattle.http_wire.specs.declared.stop.Stop.TheVariants as stopped
+use Rattle.http_wire.specs.Bodies.{is_cut_short, is_malformed, ends_before, Goes, Stops, due, less, Skips, stays, skips, Moves, IsCutAt, Runs, stops, Passes}
+use Rattle.http_wire.specs.BodyAnswers.{given, count_of, IsStepEnd, IsOfData, CanStep, GivesNone}
+use Rattle.http_wire.specs.InnerPieces.{TakesPiece, IsAfter}
+use Rattle.http_wire.specs.InnerReaching.{step_of, CanReach, IsStopAt, IsReachEnd, EndsInPiece, GivesData}
 use Rattle.http_wire.specs.Flow.{Flow, OnStream, Counts}
 use Rattle.http_wire.proofs.BodyLaws.{Advances, advances_over, advances_then, advances_in}
 use Rattle.http_wire.proofs.TakingLaws.{less_none, cut_in}
 use Rattle.http_wire.proofs.StreamLaws.{on_then, on_same}
-
--- a step took bytes off the front, as many as it says
-gave_in : (step : BodyStep) (room old new : List ℕ) → GivesSome step room old new → (length (given step room) ≡ count_of step) × (old ≡ given step room ++ new)
-gave_in (steps.Bytes n) room old new x = (length-take-le n room x.0, x.1)
-gave_in steps.End room old new x = absurd x
-gave_in steps.Cut room old new x = (refl, x.0 ∙ sym x.1)
-gave_in steps.Bad room old new x = absurd x
-gave_in steps.SourceFault room old new x = (refl, sym x)
-gave_in steps.Long room old new x = (refl, sym x)
-
--- a step inside data ends the body only where the input ends
-stop_in : (step : BodyStep) (state : BodyState) (room old new : List ℕ) → 0 < due state → GivesSome step room old new → IsStopOf step (less state (count_of step)) new
-stop_in (steps.Bytes n) state room old new some x = tt
-stop_in steps.End state room old new some x = absurd x
-stop_in steps.Cut state room old new some x = subst (λ (s : BodyState). Stops s new [] is_cut_short) (sym (less_none state)) (cut_in state new some x.1)
-stop_in steps.Bad state room old new some x = absurd x
-stop_in steps.SourceFault state room old new some x = tt
-stop_in steps.Long state room old new some x = tt
 
 -- what was given on the way, and what is made of the rest, is what is made of the whole
 pub adds_up : (old new : BodyState) (bytes given rest : List ℕ) → Moves old bytes given new rest → Advances old bytes given new rest
@@ -48,82 +31,33 @@ adds_up old new bytes given rest (at, behind, skipped, few, split, is) =
 abbrev pub Follows : BodyState → BodyState → Type 0
 Follows (states.Fixed n) now = (now ≡ states.Fixed n) ⊎ ((n ≡ 0) × (now ≡ states.Done))
 Follows (states.Data n) now = (now ≡ states.Data n) ⊎ (n ≡ 0)
-Follows (states.Before pieces.Gap) now = ⊤
-Follows (states.Before pieces.Line) now = ⊤
 Follows (states.Before pieces.Trailer) now = (now ≡ states.Before pieces.Trailer) ⊎ (now ≡ states.Done)
+Follows (states.Before piece) now = ⊤
 Follows states.Done now = now ≡ states.Done
 Follows states.Refused now = now ≡ states.Refused
 
--- where it stands when it stops there
-abbrev pub Stands : Reached → BodyState → Type 0
-Stands (reached.Data left) now = ((now ≡ states.Fixed left) ⊎ (now ≡ states.Data left)) × (0 < left)
-Stands reached.End now = now ≡ states.Done
-Stands reached.Cut now = (piece : Piece) × (now ≡ states.Before piece)
-Stands reached.Bad now = (now ≡ states.Refused) ⊎ ((piece : Piece) × (now ≡ states.Before piece))
-Stands reached.SourceFault now = (piece : Piece) × (now ≡ states.Before piece)
-Stands reached.Long now = (piece : Piece) × (now ≡ states.Before piece)
+-- what it answers where it stands
+abbrev pub Stands : BodyState → Result ℕ Stop → Type 0
+Stands (states.Fixed n) what = (0 < n) × (what ≡ Ok n)
+Stands (states.Data n) what = (0 < n) × (what ≡ Ok n)
+Stands (states.Before piece) what = (stop : Stop) × (what ≡ Err stop)
+Stands states.Done what = what ≡ Ok 0
+Stands states.Refused what = what ≡ Err stopped.Malformed
 
-stands_fixed : (n : ℕ) (now : BodyState) (what : Reached) → now ≡ states.Fixed n → Stands what now → (what ≡ reached.Data n) × (0 < n)
-stands_fixed n now (reached.Data left) is (inl y, some) = let e : left ≡ n = ap due (sym y ∙ is) in (ap reached.Data e, omega (arith, e, some))
-stands_fixed n now (reached.Data left) is (inr y, some) = absurd cc
-stands_fixed n now reached.End is y = absurd cc
-stands_fixed n now reached.Cut is (piece, y) = absurd cc
-stands_fixed n now reached.Bad is (inl y) = absurd cc
-stands_fixed n now reached.Bad is (inr (piece, y)) = absurd cc
-stands_fixed n now reached.SourceFault is (piece, y) = absurd cc
-stands_fixed n now reached.Long is (piece, y) = absurd cc
+stands_at : (now at : BodyState) (what : Result ℕ Stop) → now ≡ at → Stands now what → Stands at what
+stands_at now at what is stands = subst (λ (s : BodyState). Stands s what) is stands
 
-stands_data : (n : ℕ) (now : BodyState) (what : Reached) → now ≡ states.Data n → Stands what now → what ≡ reached.Data n
-stands_data n now (reached.Data left) is (inl y, some) = absurd cc
-stands_data n now (reached.Data left) is (inr y, some) = ap reached.Data (ap due (sym y ∙ is))
-stands_data n now reached.End is y = absurd cc
-stands_data n now reached.Cut is (piece, y) = absurd cc
-stands_data n now reached.Bad is (inl y) = absurd cc
-stands_data n now reached.Bad is (inr (piece, y)) = absurd cc
-stands_data n now reached.SourceFault is (piece, y) = absurd cc
-stands_data n now reached.Long is (piece, y) = absurd cc
-
-stands_done : (now : BodyState) (what : Reached) → now ≡ states.Done → Stands what now → what ≡ reached.End
-stands_done now (reached.Data left) is (inl y, some) = absurd cc
-stands_done now (reached.Data left) is (inr y, some) = absurd cc
-stands_done now reached.End is y = refl
-stands_done now reached.Cut is (piece, y) = absurd cc
-stands_done now reached.Bad is (inl y) = absurd cc
-stands_done now reached.Bad is (inr (piece, y)) = absurd cc
-stands_done now reached.SourceFault is (piece, y) = absurd cc
-stands_done now reached.Long is (piece, y) = absurd cc
-
-stands_refused : (now : BodyState) (what : Reached) → now ≡ states.Refused → Stands what now → what ≡ reached.Bad
-stands_refused now (reached.Data left) is (inl y, some) = absurd cc
-stands_refused now (reached.Data left) is (inr y, some) = absurd cc
-stands_refused now reached.End is y = absurd cc
-stands_refused now reached.Cut is (piece, y) = absurd cc
-stands_refused now reached.Bad is y = refl
-stands_refused now reached.SourceFault is (piece, y) = absurd cc
-stands_refused now reached.Long is (piece, y) = absurd cc
-
-stands_before : (piece : Piece) (now : BodyState) (what : Reached) → now ≡ states.Before piece → Stands what now → IsNoData what
-stands_before piece now (reached.Data left) is (inl y, some) = absurd cc
-stands_before piece now (reached.Data left) is (inr y, some) = absurd cc
-stands_before piece now reached.End is y = tt
-stands_before piece now reached.Cut is y = tt
-stands_before piece now reached.Bad is y = tt
-stands_before piece now reached.SourceFault is y = tt
-stands_before piece now reached.Long is y = tt
-
-pub come_to : (first now : BodyState) (what : Reached) → Follows first now → Stands what now → CanReach first what now
-come_to (states.Fixed n) now what (inl is) stands =
-    let found = stands_fixed n now what is stands in
-    subst (λ (w : Reached). ReachesLength w n now) (sym found.0) (refl, is)
-come_to (states.Fixed n) now what (inr (none, is)) stands = subst (λ (w : Reached). ReachesLength w n now) (sym (stands_done now what is stands)) (none, is)
-come_to (states.Data n) now what (inl is) stands = λ some. (stands_data n now what is stands, is)
+pub come_to : (first now : BodyState) (what : Result ℕ Stop) → Follows first now → Stands now what → CanReach first what now
+come_to (states.Fixed n) now what (inl is) stands = let found = stands_at now (states.Fixed n) what is stands in (found.1, inl (is, found.0))
+come_to (states.Fixed n) now what (inr (none, is)) stands = (stands_at now states.Done what is stands ∙ ap Ok (sym none), inr (none, is))
+come_to (states.Data n) now what (inl is) stands = λ some. ((stands_at now (states.Data n) what is stands).1, is)
 come_to (states.Data n) now what (inr none) stands = λ some. absurd (omega (arith, some, none))
 come_to (states.Before pieces.Gap) now what follows stands = tt
 come_to (states.Before pieces.Line) now what follows stands = tt
-come_to (states.Before pieces.Trailer) now what (inl is) stands = stands_before pieces.Trailer now what is stands
-come_to (states.Before pieces.Trailer) now what (inr is) stands = subst IsNoData (sym (stands_done now what is stands)) tt
-come_to states.Done now what is stands = (stands_done now what is stands, is)
-come_to states.Refused now what is stands = (stands_refused now what is stands, is)
+come_to (states.Before pieces.Trailer) now what (inl is) stands = let found = stands_at now (states.Before pieces.Trailer) what is stands in subst (λ (w : Result ℕ Stop). IfOk w (λ left. left ≡ 0)) (sym found.1) tt
+come_to (states.Before pieces.Trailer) now what (inr is) stands = subst (λ (w : Result ℕ Stop). IfOk w (λ left. left ≡ 0)) (sym (stands_at now states.Done what is stands)) refl
+come_to states.Done now what is stands = (stands_at now states.Done what is stands, is)
+come_to states.Refused now what is stands = (stands_at now states.Refused what is stands, is)
 
 pub follows_none : (first : BodyState) → Follows first first
 follows_none (states.Fixed n) = inl refl
@@ -170,18 +104,66 @@ follows_piece (states.Before pieces.Trailer) now piece next (inr is) at after = 
 follows_piece states.Done now piece next is at after = absurd cc
 follows_piece states.Refused now piece next is at after = absurd cc
 
--- what a step inside data can answer, where the reader came to that data
-pub can_step : (first next : BodyState) (left : ℕ) (step : BodyStep) → 0 < left → CanReach first (reached.Data left) next → IsOfData left step → CanStep first step
-can_step (states.Fixed n) next left step some (same, is) of_data = (λ none. absurd (omega (arith, some, same, none)), λ more. subst (λ (k : ℕ). IsOfData k step) same of_data)
-can_step (states.Data n) next left step some x of_data = λ more. subst (λ (k : ℕ). IsOfData k step) (left_of (x more).0) of_data
-  where
-    left_of : reached.Data left ≡ reached.Data n → left ≡ n
-    left_of e = cc
+-- ---- what a step can answer
+
+fixed_left : (n left : ℕ) → ◌≡◌ {A = Result ℕ Stop} (Ok left) (Ok n) → left ≡ n
+fixed_left n left e = cc
+
+-- inside data that the reader came to
+pub can_step : (first next : BodyState) (left : ℕ) (step : BodyStep) → 0 < left → CanReach first (Ok left) next → IsOfData left step → CanStep first step
+can_step (states.Fixed n) next left step some (same, is) of_data =
+    let e = fixed_left n left same in
+    (λ none. absurd (omega (arith, some, e, none)), λ more. subst (λ (k : ℕ). IsOfData k step) e of_data)
+can_step (states.Data n) next left step some x of_data = λ more. subst (λ (k : ℕ). IsOfData k step) (fixed_left n left (x more).0) of_data
 can_step (states.Before pieces.Gap) next left step some x of_data = tt
 can_step (states.Before pieces.Line) next left step some x of_data = tt
-can_step (states.Before pieces.Trailer) next left step some x of_data = absurd x
-can_step states.Done next left step some (end, is) of_data = absurd cc
+can_step (states.Before pieces.Trailer) next left step some x of_data = absurd (omega (arith, some, x))
+can_step states.Done next left step some (end, is) of_data = absurd (omega (arith, some, fixed_left 0 left end))
 can_step states.Refused next left step some (bad, is) of_data = absurd cc
+
+pub can_end : (first next : BodyState) → CanReach first (Ok 0) next → CanStep first steps.End
+can_end (states.Fixed n) next (same, is) = (λ none. refl, λ more. absurd (omega (arith, more, fixed_left n 0 same)))
+can_end (states.Data n) next x = λ more. absurd (omega (arith, more, fixed_left n 0 (x more).0))
+can_end (states.Before pieces.Gap) next x = tt
+can_end (states.Before pieces.Line) next x = tt
+can_end (states.Before pieces.Trailer) next x = tt
+can_end states.Done next x = refl
+can_end states.Refused next (bad, is) = absurd cc
+
+no_data : (stop : Stop) → GivesNone (step_of stop)
+no_data stopped.Ended = tt
+no_data stopped.Malformed = tt
+no_data stopped.SourceFault = tt
+no_data stopped.Long = tt
+
+pub can_stop : (first next : BodyState) (stop : Stop) → CanReach first (Err stop) next → CanStep first (step_of stop)
+can_stop (states.Fixed n) next stop (same, is) = absurd cc
+can_stop (states.Data n) next stop x = λ more. let same = (x more).0 in absurd (cc same)
+can_stop (states.Before pieces.Gap) next stop x = tt
+can_stop (states.Before pieces.Line) next stop x = tt
+can_stop (states.Before pieces.Trailer) next stop x = no_data stop
+can_stop states.Done next stop (same, is) = absurd cc
+can_stop states.Refused next stop (same, is) = let e : stop ≡ stopped.Malformed = cc in ap step_of e
+
+pub of_data : (left : ℕ) (stop : Stop) → ¬ (stop ≡ stopped.Malformed) → IsOfData left (step_of stop)
+of_data left stopped.Ended sound = tt
+of_data left stopped.Malformed sound = absurd (sound refl)
+of_data left stopped.SourceFault sound = tt
+of_data left stopped.Long sound = tt
+
+pub no_count : (stop : Stop) → count_of (step_of stop) ≡ 0
+no_count stopped.Ended = refl
+no_count stopped.Malformed = refl
+no_count stopped.SourceFault = refl
+no_count stopped.Long = refl
+
+step_end : (stop : Stop) (state : BodyState) (rest : List ℕ) → IsStopAt stop state rest → IsStepEnd (step_of stop) state rest
+step_end stopped.Ended state rest x = x
+step_end stopped.Malformed state rest x = x
+step_end stopped.SourceFault state rest x = tt
+step_end stopped.Long state rest x = tt
+
+-- ---- over the stream
 
 -- the reader skipped from `first` to `now`
 abbrev pub Skipped : BodyState → BodyState → List ℕ → List ℕ → Type 0
@@ -191,51 +173,141 @@ pub skipped_none : (first : BodyState) (a : Option (List ℕ)) → OnStream a a 
 skipped_none first None = tt
 skipped_none first (Some bytes) = stays first bytes first bytes refl refl
 
+skip_piece : (first now next : BodyState) (piece : Piece) (x y z : List ℕ) → now ≡ states.Before piece → Skips first x now y → Passes piece y next z → Skips first x next z
+skip_piece first now next piece x y z is m t = skips first x next z now y m (subst (λ (s : BodyState). Goes s y next [] z) (sym is) (t, refl))
+
+skip_end : (first now : BodyState) (x y : List ℕ) → now ≡ states.Fixed 0 → Skips first x now y → Skips first x states.Done y
+skip_end first now x y is m = skips first x states.Done y now y m (subst (λ (s : BodyState). Goes s y states.Done [] y) (sym is) (omega arith, refl, refl, refl))
+
+skip_data : (first now : BodyState) (x y : List ℕ) → now ≡ states.Data 0 → Skips first x now y → Skips first x (states.Before pieces.Gap) y
+skip_data first now x y is m =
+    skips first x (states.Before pieces.Gap) y now y m (subst (λ (s : BodyState). Goes s y (states.Before pieces.Gap) [] y) (sym is) (omega arith, refl, refl, refl))
+
 module _ (first now : BodyState) (a b c : Option (List ℕ)) (moved : OnStream a b (Skipped first now)) where
-  pub skipped_piece : (piece : Piece) (next : BodyState) → now ≡ states.Before piece → OnStream b c (Takes (taken.Next next) piece) → OnStream a c (Skipped first next)
-  skipped_piece piece next is took = on_then a b c moved took (λ x y z m t.
-      skips first x next z now y m (subst (λ (s : BodyState). Goes s y next [] z) (sym is) (t, refl)))
+  pub skipped_piece : (piece : Piece) (next : BodyState) → now ≡ states.Before piece → OnStream b c (TakesPiece (Ok next) piece) → OnStream a c (Skipped first next)
+  skipped_piece piece next is took = on_then a b c moved took (λ x y z m t. skip_piece first now next piece x y z is m t)
 
-  pub skipped_same : OnStream b c (λ old new. new ≡ old) → OnStream a c (Skipped first now)
-  skipped_same same = on_then a b c moved same (λ x y z m t. subst (λ (r : List ℕ). Skipped first now x r) (sym t) m)
+  -- a piece that was not taken
+  pub skipped_same : (piece : Piece) (stop : Stop) → OnStream b c (TakesPiece (Err stop) piece) → OnStream a c (Skipped first now)
+  skipped_same piece stop same = on_then a b c moved same (λ x y z m t. subst (λ (r : List ℕ). Skipped first now x r) (sym (kept piece stop y z t)) m)
+    where
+      kept : (piece : Piece) (stop : Stop) (y z : List ℕ) → TakesPiece (Err stop) piece y z → z ≡ y
+      kept piece stopped.Ended y z t = t.1
+      kept piece stopped.Malformed y z t = t.1
+      kept piece stopped.SourceFault y z t = t
+      kept piece stopped.Long y z t = t
 
-  pub stopped_bad : (piece : Piece) → now ≡ states.Before piece → OnStream b c (Takes taken.Bad piece) → OnStream a c (λ old new. IsAtStop reached.Bad now new)
-  stopped_bad piece is took = on_then a b c moved took (λ x y z m t.
-      subst (λ (s : BodyState). Stops s z [] is_malformed) (sym is)
-      (subst (λ (r : List ℕ). Stops (states.Before piece) r [] is_malformed) (sym t.1) (refl, inl (t.0, refl))))
+  pub stopped_at_piece : (piece : Piece) (stop : Stop) → now ≡ states.Before piece → OnStream b c (TakesPiece (Err stop) piece) → OnStream a c (λ old new. IsReachEnd (Err stop) now new)
+  stopped_at_piece piece stop is took = on_then a b c moved took (λ x y z m t. subst (λ (s : BodyState). IsStopAt stop s z) (sym is) (at piece stop y z t))
+    where
+      at : (piece : Piece) (stop : Stop) (y z : List ℕ) → TakesPiece (Err stop) piece y z → IsStopAt stop (states.Before piece) z
+      at piece stopped.Ended y z t = subst (λ (r : List ℕ). Stops (states.Before piece) r [] is_cut_short) (sym t.1) (refl, inr (t.0, refl))
+      at piece stopped.Malformed y z t = subst (λ (r : List ℕ). Stops (states.Before piece) r [] is_malformed) (sym t.1) (refl, inl (t.0, refl))
+      at piece stopped.SourceFault y z t = tt
+      at piece stopped.Long y z t = tt
 
-  pub stopped_cut : (piece : Piece) → now ≡ states.Before piece → OnStream b c (Takes taken.Cut piece) → OnStream a c (λ old new. IsAtStop reached.Cut now new)
-  stopped_cut piece is took = on_then a b c moved took (λ x y z m t.
-      subst (λ (s : BodyState). Stops s z [] is_cut_short) (sym is)
-      (subst (λ (r : List ℕ). Stops (states.Before piece) r [] is_cut_short) (sym t.1) (refl, inr (t.0, refl))))
+  pub moved_in : (n : ℕ) (buffer : List ℕ) → n ≤ due now → OnStream b c (GivesData (Ok n) buffer) → OnStream a c (λ old new. Moves first old (take n buffer) (less now n) new)
+  moved_in n buffer few gave = on_then a b c moved gave (λ x y z m t.
+      let long = length-take-le n buffer t.0 in
+      (now, y, m, omega (arith, few, long), t.1, ap (less now) (sym long)))
 
-  pub moved_in : (step : BodyStep) (room : List ℕ) → count_of step ≤ due now → OnStream b c (GivesSome step room)
-      → OnStream a c (λ old new. Moves first old (given step room) (less now (count_of step)) new)
-  moved_in step room few gave = on_then a b c moved gave (λ x y z m t.
-      let took = gave_in step room y z t in
-      (now, y, m, omega (arith, few, took.0), took.1, ap (less now) (sym took.0)))
+  pub ended_in : (n : ℕ) (buffer : List ℕ) (next : BodyState) → OnStream b c (GivesData (Ok n) buffer) → OnStream a c (λ old new. IsStepEnd (steps.Bytes n) next new)
+  ended_in n buffer next gave = on_then a b c moved gave (λ x y z m t. tt)
 
-  pub ended_in : (step : BodyStep) (room : List ℕ) → 0 < due now → OnStream b c (GivesSome step room)
-      → OnStream a c (λ old new. IsStopOf step (less now (count_of step)) new)
-  ended_in step room some gave = on_then a b c moved gave (λ x y z m t. stop_in step now room y z some t)
+  pub moved_none : (stop : Stop) (buffer room : List ℕ) → OnStream b c (GivesData (Err stop) buffer) → OnStream a c (λ old new. Moves first old (given (step_of stop) room) now new)
+  moved_none stop buffer room gave = on_then a b c moved gave (λ x y z m t. subst (λ (k : ℕ). Moves first x (take k room) now z) (sym (no_count stop))
+      (now, z, subst (Skips first x now) (sym t.0) m, omega arith, refl, sym (less_none now)))
+
+  pub ended_none : (stop : Stop) (buffer : List ℕ) → 0 < due now → ¬ (stop ≡ stopped.Malformed) → OnStream b c (GivesData (Err stop) buffer) → OnStream a c (λ old new. IsStepEnd (step_of stop) now new)
+  ended_none stop buffer some sound gave = on_then a b c moved gave (λ x y z m t. step_end stop now z (at stop sound y z t))
+    where
+      at : (stop : Stop) → ¬ (stop ≡ stopped.Malformed) → (y z : List ℕ) → GivesData (Err stop) buffer y z → IsStopAt stop now z
+      at stopped.Ended sound y z t = cut_in now z some (t.0 ∙ t.1 refl)
+      at stopped.Malformed sound y z t = absurd (sound refl)
+      at stopped.SourceFault sound y z t = tt
+      at stopped.Long sound y z t = tt
 
 module _ (first now : BodyState) (a b : Option (List ℕ)) (moved : OnStream a b (Skipped first now)) where
   pub skipped_end : now ≡ states.Fixed 0 → OnStream a b (Skipped first states.Done)
-  skipped_end is = on_same a b moved (λ x y m.
-      skips first x states.Done y now y m (subst (λ (s : BodyState). Goes s y states.Done [] y) (sym is) (omega arith, refl, refl, refl)))
+  skipped_end is = on_same a b moved (λ x y m. skip_end first now x y is m)
 
   pub skipped_data : now ≡ states.Data 0 → OnStream a b (Skipped first (states.Before pieces.Gap))
-  skipped_data is = on_same a b moved (λ x y m.
-      skips first x (states.Before pieces.Gap) y now y m (subst (λ (s : BodyState). Goes s y (states.Before pieces.Gap) [] y) (sym is) (omega arith, refl, refl, refl)))
+  skipped_data is = on_same a b moved (λ x y m. skip_data first now x y is m)
 
-  pub stopped_done : now ≡ states.Done → OnStream a b (λ old new. IsAtStop reached.End now new)
-  stopped_done is = on_same a b moved (λ x y m. subst (λ (s : BodyState). Stops s y [] (ends_before y)) (sym is) (refl, refl))
+  pub stopped_done : now ≡ states.Done → OnStream a b (λ old new. IsReachEnd (Ok 0) now new)
+  stopped_done is = on_same a b moved (λ x y m none. subst (λ (s : BodyState). Stops s y [] (ends_before y)) (sym is) (refl, refl))
 
-  pub stopped_refused : now ≡ states.Refused → OnStream a b (λ old new. IsAtStop reached.Bad now new)
+  pub stopped_refused : now ≡ states.Refused → OnStream a b (λ old new. IsReachEnd (Err stopped.Malformed) now new)
   stopped_refused is = on_same a b moved (λ x y m. subst (λ (s : BodyState). Stops s y [] is_malformed) (sym is) (refl, refl))
+
+  pub stopped_in_data : (left : ℕ) → 0 < left → OnStream a b (λ old new. IsReachEnd (Ok left) now new)
+  stopped_in_data left some = on_same a b moved (λ x y m none. absurd (omega (arith, some, none)))
 
   pub moved_over : OnStream a b (λ old new. Moves first old [] now new)
   moved_over = on_same a b moved (λ x y m. (now, y, m, omega arith, refl, sym (less_none now)))
+
+  pub moved_before : (stop : Stop) (room : List ℕ) → OnStream a b (λ old new. Moves first old (given (step_of stop) room) now new)
+  moved_before stop room = on_same a b moved_over (λ x y m. subst (λ (k : ℕ). Moves first x (take k room) now y) (sym (no_count stop)) m)
+
+pub ended_at : (now : BodyState) (a b : Option (List ℕ)) → OnStream a b (λ old new. IsReachEnd (Ok 0) now new) → OnStream a b (λ old new. IsStepEnd steps.End now new)
+ended_at now a b stop = on_same a b stop (λ x y t. t refl)
+
+pub ended_before : (now : BodyState) (stop : Stop) (a b : Option (List ℕ)) → OnStream a b (λ old new. IsReachEnd (Err stop) now new) → OnStream a b (λ old new. IsStepEnd (step_of stop) now new)
+ended_before now stop a b x = on_same a b x (λ old new t. step_end stop now new t)
+
+-- ---- over what waits
+
+-- the source is as it was, and the reader skipped over what waited; or that ends before a piece
+abbrev pub AtHand : {S : Type 0} → S → S → BodyState → List ℕ → BodyState → List ℕ → Type 0
+AtHand old new first bytes now rest = ((new ≡ old) × Skips first bytes now rest) ⊎ EndsInPiece first bytes
+
+module _ {S : Type 0} (old mid new : S) (first now : BodyState) (x y : List ℕ) (waits : AtHand old mid first x now y) where
+  pub hand_end : now ≡ states.Fixed 0 → AtHand old mid first x states.Done y
+  hand_end is = elim waits [ inl w ↦ inl (w.0, skip_end first now x y is w.1) | inr w ↦ inr w ]
+
+  pub hand_data : now ≡ states.Data 0 → AtHand old mid first x (states.Before pieces.Gap) y
+  hand_data is = elim waits [ inl w ↦ inl (w.0, skip_data first now x y is w.1) | inr w ↦ inr w ]
+
+  pub hand_piece : (piece : Piece) (next : BodyState) (z : List ℕ) → now ≡ states.Before piece → ((new ≡ mid) × TakesPiece (Ok next) piece y z) ⊎ IsCutAt piece y → AtHand old new first x next z
+  hand_piece piece next z is took = elim waits [
+    | inl w ↦ elim took [
+        | inl t ↦ inl (t.0 ∙ w.0, skip_piece first now next piece x y z is w.1 t.1)
+        | inr cut ↦ inr (piece, y, subst (λ (s : BodyState). Skips first x s y) is w.1, cut)
+      ]
+    | inr w ↦ inr w
+  ]
+
+  pub hand_same : (piece : Piece) (stop : Stop) (z : List ℕ) → now ≡ states.Before piece → ((new ≡ mid) × TakesPiece (Err stop) piece y z) ⊎ IsCutAt piece y → AtHand old new first x now z
+  hand_same piece stop z is took = elim waits [
+    | inl w ↦ elim took [
+        | inl t ↦ inl (t.0 ∙ w.0, subst (Skips first x now) (sym (kept stop t.1)) w.1)
+        | inr cut ↦ inr (piece, y, subst (λ (s : BodyState). Skips first x s y) is w.1, cut)
+      ]
+    | inr w ↦ inr w
+  ]
+    where
+      kept : (stop : Stop) → TakesPiece (Err stop) piece y z → z ≡ y
+      kept stopped.Ended t = t.1
+      kept stopped.Malformed t = t.1
+      kept stopped.SourceFault t = t
+      kept stopped.Long t = t
+
+-- a body of which no data wait
+runs_over : (first : BodyState) (bytes : List ℕ) (now : BodyState) (rest : List ℕ) → Skips first bytes now rest → Stops now rest [] is_cut_short → Runs first bytes [] is_cut_short
+runs_over first bytes now rest skip stop = advances_over first bytes now rest skip [] is_cut_short (stops now rest [] is_cut_short stop)
+
+pub ends_in_piece : (first : BodyState) (bytes : List ℕ) → EndsInPiece first bytes → Runs first bytes [] is_cut_short
+ends_in_piece first bytes (piece, behind, skip, cut) = runs_over first bytes (states.Before piece) behind skip (refl, inr (cut, refl))
+
+pub hand_read : {S : Type 0} (old mid : S) (first now : BodyState) (x y : List ℕ) → AtHand old mid first x now y → ¬ (Runs first x [] is_cut_short) → mid ≡ old
+hand_read old mid first now x y waits decided = elim waits [ inl w ↦ w.0 | inr w ↦ absurd (decided (ends_in_piece first x w)) ]
+
+pub hand_given : {S : Type 0} (old mid new : S) (first now : BodyState) (x y : List ℕ) → 0 < due now → AtHand old mid first x now y → (new ≡ mid) ⊎ (y ≡ [])
+    → ¬ (Runs first x [] is_cut_short) → new ≡ old
+hand_given old mid new first now x y some waits gave decided = elim waits [
+  | inl w ↦ elim gave [ inl same ↦ same ∙ w.0 | inr none ↦ absurd (decided (runs_over first x now y w.1 (cut_in now y some none))) ]
+  | inr w ↦ absurd (decided (ends_in_piece first x w))
+]
 
 -- counts over two calls
 pub Counts-trans : (a : Flow) (i : ℕ) (b : Flow) (j : ℕ) (c : Flow) (k : ℕ) → Counts a i b j → Counts b j c k → Counts a i c k

@@ -10,11 +10,13 @@ use Rattle.http_wire.specs.declared.head.Heading.TheVariants as headings
 use Rattle.http_wire.specs.declared.head.BadHead.{BadHead}
 use Rattle.http_wire.specs.declared.head.BadHead.TheVariants as faults
 use Rattle.http_wire.specs.declared.judge.Judged.TheVariants as judged
-use Rattle.http_wire.specs.Answers.{number_of, IsBad, Judges, Tells, EndsAs}
+use Rattle.http_wire.specs.Answers.{number_of, IsBadHead, TellsHead, IsHeadOpen}
+use Rattle.http_wire.specs.InnerHeads.{Judges, EndsAs}
 use Rattle.std.specs.List.{list_all}
 use Rattle.httparse.specs.Pieces.{is_newline}
 use Rattle.http_wire.specs.Flow.{Flow, spent, IsBounded, OnStream}
 use Rattle.http_wire.specs.Heads.{IsOpen, HasManyFields}
+use Rattle.std.proofs.lemmas.Bool.{cases_Bool}
 
 -- a call that kept the stream left it as it was
 pub stays : (old new : Option (List ℕ)) → Keeps old new → OnStream old new (λ a b. b ≡ a)
@@ -50,13 +52,13 @@ refilled p t (Some xs) (Some ys) x = append_assoc p t ys ∙ ap (λ (b : List �
 many_fields-append : (p q : List ℕ) → HasManyFields p → HasManyFields (p ++ q)
 many_fields-append p q (h, rest, (reads, few), many) = (h, rest ++ q, (ReadsRequest-append p h rest q reads, few), many)
 
-bad : (p q : List ℕ) (why : BadHead) → length p ≤ 16384 → Judges (judged.Bad why) p → IsBad (p ++ q) why
+bad : (p q : List ℕ) (why : BadHead) → length p ≤ 16384 → Judges (judged.Bad why) p → IsBadHead (p ++ q) why
 bad p q faults.Malformed few x = (p, q, refl, few, x)
 bad p q faults.TooLarge few (inl (full, open_p)) = inl (p, q, refl, full, open_p)
 bad p q faults.TooLarge few (inr many) = inr (many_fields-append p q many)
 
-IsBad-same : (a b : List ℕ) (why : BadHead) → b ≡ a → IsBad b why → IsBad a why
-IsBad-same a b why same x = subst (λ (c : List ℕ). IsBad c why) same x
+IsBadHead-same : (a b : List ℕ) (why : BadHead) → b ≡ a → IsBadHead b why → IsBadHead a why
+IsBadHead-same a b why same x = subst (λ (c : List ℕ). IsBadHead c why) same x
 
 -- what is known of a head, and of a refusal, of any bytes
 pub head_minor : (p : List ℕ) (head : Head) (count : ℕ) → Judges (judged.Whole head count) p → head.minor ≤ 1
@@ -67,13 +69,13 @@ number_known faults.Malformed number is = inl is
 number_known faults.TooLarge number is = inr is
 
 pub refuses : (old left : Option (List ℕ)) (p : List ℕ) (why : BadHead) (number : ℕ) → number ≡ number_of why → Keeps old (prepend_known p left) → length p ≤ 16384
-    → Judges (judged.Bad why) p → OnStream old (prepend_known p left) (Tells (headings.Bad number))
+    → Judges (judged.Bad why) p → OnStream old (prepend_known p left) (TellsHead (headings.Bad number))
 refuses None left p why number is kept few x = tt
 refuses (Some a) None p why number is kept few x = kept
-refuses (Some a) (Some q) p why number is kept few x = (why, is, IsBad-same a (p ++ q) why kept (bad p q why few x), kept)
+refuses (Some a) (Some q) p why number is kept few x = (why, is, IsBadHead-same a (p ++ q) why kept (bad p q why few x), kept)
 
 pub finds : (old left : Option (List ℕ)) (p : List ℕ) (head : Head) (count : ℕ) → Keeps old (prepend_known p left) → length p ≤ 16384
-    → Judges (judged.Whole head count) p → OnStream old (prepend_known (drop count p) left) (Tells (headings.Head head))
+    → Judges (judged.Whole head count) p → OnStream old (prepend_known (drop count p) left) (TellsHead (headings.Head head))
 finds None left p head count kept few x = tt
 finds (Some a) None p head count kept few x = kept
 finds (Some a) (Some q) p head count kept few (h, shows, reads, is_count, some, fits) =
@@ -81,15 +83,22 @@ finds (Some a) (Some q) p head count kept few (h, shows, reads, is_count, some, 
     (h, (((whole.0, sym kept ∙ whole.1), omega arith), some), shows)
 
 pub ends : (old left : Option (List ℕ)) (p : List ℕ) (answer : Heading) → Keeps old (prepend_known p left) → IsAtEnd left
-    → Judges judged.Open p → EndsAs answer p → OnStream old (prepend_known p left) (Tells answer)
+    → Judges judged.Open p → EndsAs answer p → OnStream old (prepend_known p left) (TellsHead answer)
 ends None left p answer kept over x y = tt
 ends (Some a) None p answer kept over x y = kept
 ends (Some a) (Some q) p answer kept over x (inl (blank, is_end)) =
     let same : a ≡ p = sym kept ∙ ap (λ (b : List ℕ). p ++ b) over ∙ append-nil p in
-    subst (λ (v : Heading). Tells v a (p ++ q)) (sym is_end) (subst (λ (b : List ℕ). (length b < 16384) × (list_all is_newline b ≡ true)) (sym same) (x.1, blank), kept)
+    subst (λ (v : Heading). TellsHead v a (p ++ q)) (sym is_end) (subst (λ (b : List ℕ). (length b < 16384) × (list_all is_newline b ≡ true)) (sym same) (x.1, blank), kept)
 ends (Some a) (Some q) p answer kept over x (inr (blank, is_cut)) =
     let same : a ≡ p = sym kept ∙ ap (λ (b : List ℕ). p ++ b) over ∙ append-nil p in
-    subst (λ (v : Heading). Tells v a (p ++ q)) (sym is_cut) (subst (λ (b : List ℕ). (length b < 16384) × IsOpen b × (list_all is_newline b ≡ false)) (sym same) (x.1, x.0, blank), kept)
+    subst (λ (v : Heading). TellsHead v a (p ++ q)) (sym is_cut) (subst (λ (b : List ℕ). (length b < 16384) × IsOpen b × (list_all is_newline b ≡ false)) (sym same) (x.1, x.0, blank), kept)
+
+-- bytes that are open are neither a head nor refused yet
+pub open_is_open : (p : List ℕ) → Judges judged.Open p → IsHeadOpen p
+open_is_open p (is_open, few) = elim (cases_Bool (list_all is_newline p)) [
+  | inl blank ↦ inl (few, blank)
+  | inr some ↦ inr (few, is_open, some)
+]
 
 pub pending_fits : (b : List ℕ) (start end count : ℕ) → start ≤ end → count ≤ length (slice_range b start end) → start + count ≤ end
 pending_fits b start end count ordered few = omega (arith, length-take (end - start) (drop start b))

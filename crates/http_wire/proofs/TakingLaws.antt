@@ -1,5 +1,5 @@
 -- From what waits in a feed to the pieces of a body on the stream.
-use Rattle.std.proofs.Common.{◌≡◌, ℕ, ◌+◌, ◌-◌, ◌<◌, ◌≤◌, min, List, [], ◌++◌, length, take, drop, slice_range, refl, sym, ap, subst, ◌∙◌, arith, append_assoc, append-nil, length-append, Option, Some, None}
+use Rattle.std.proofs.Common.{◌≡◌, ℕ, ◌+◌, ◌-◌, ◌<◌, ◌≤◌, min, List, [], ◌++◌, length, take, drop, slice_range, refl, sym, ap, subst, ◌∙◌, arith, append_assoc, append-nil, length-append, Option, Some, None, Ok, Err}
 use Rattle.std.proofs.Math.Nat.{sub-zero}
 use Rattle.std.specs.Io.KnownBytes.{prepend_known, Keeps, IsAtEnd}
 use Rattle.http_wire.specs.declared.body.BodyState.{BodyState}
@@ -8,14 +8,14 @@ use Rattle.http_wire.specs.declared.body.Piece.{Piece}
 use Rattle.http_wire.specs.declared.body.Piece.TheVariants as pieces
 use Rattle.http_wire.specs.declared.pieces.PieceJudged.{PieceJudged}
 use Rattle.http_wire.specs.declared.pieces.PieceJudged.TheVariants as judged
-use Rattle.http_wire.specs.declared.pieces.Taken.TheVariants as taken
-use Rattle.http_wire.specs.Bodies.{Passes, IsBad, IsCut, is_cut_short, Stops, due, less}
-use Rattle.http_wire.specs.BodyAnswers.{limit_of, JudgesPiece, JudgesFront, FitsFront, IsAfter, Takes}
+use Rattle.http_wire.specs.declared.stop.Stop.TheVariants as stopped
+use Rattle.http_wire.specs.Bodies.{Passes, IsBadAt, IsCutAt, is_cut_short, Stops, due, less}
+use Rattle.http_wire.specs.InnerPieces.{limit_of, JudgesPiece, JudgesFront, FitsFront, IsAfter, TakesPiece}
 use Rattle.http_wire.specs.Flow.{OnStream}
-use Rattle.http_wire.proofs.BodyLaws.{Passes-append, IsBad-append}
+use Rattle.http_wire.proofs.BodyLaws.{Passes-append, IsBadAt-append}
 use Rattle.http_wire.proofs.StreamLaws.{slice_split, length_slice, drop_front}
 
-cut_is_short : (piece : Piece) (bytes : List ℕ) → IsCut piece bytes → length bytes < limit_of piece
+cut_is_short : (piece : Piece) (bytes : List ℕ) → IsCutAt piece bytes → length bytes < limit_of piece
 cut_is_short pieces.Gap bytes cut = cut.0
 cut_is_short pieces.Line bytes cut = cut.0
 cut_is_short pieces.Trailer bytes cut = cut.0
@@ -31,7 +31,7 @@ pub front_judged : (answer : PieceJudged) (piece : Piece) (b p : List ℕ) (star
 front_judged answer piece b p start end middle ordered within is_middle is x =
     (slice_range b start middle, slice_range b middle end, sym is ∙ slice_split b start middle end (omega arith) (omega arith), x, λ is_open. nothing_behind (subst (λ (a : PieceJudged). JudgesPiece a piece (slice_range b start middle)) is_open x))
   where
-    nothing_behind : IsCut piece (slice_range b start middle) → slice_range b middle end ≡ []
+    nothing_behind : IsCutAt piece (slice_range b start middle) → slice_range b middle end ≡ []
     nothing_behind cut =
         let short = cut_is_short piece _ cut in
         let long = length_slice b start middle (omega arith) (omega arith) in
@@ -44,10 +44,27 @@ front_fits judged.Bad piece p x = tt
 front_fits judged.Open piece p (begin, behind, split, cut, nothing) =
     omega (arith, ap length split, length-append begin behind, ap length (nothing refl), cut_is_short piece begin cut, limit_is_small piece)
 
+-- ---- of all that waits
+
+append_none : (piece : List ℕ) (b : List ℕ) → b ≡ [] → piece ++ b ≡ piece
+append_none p b none = ap (λ (t : List ℕ). p ++ t) none ∙ append-nil p
+
+pub found_in : (p : List ℕ) (piece : Piece) (next : BodyState) (count : ℕ) → JudgesFront (judged.Whole next count) piece p → Passes piece p next (drop count p)
+found_in p piece next count (begin, behind, split, (passes, some, fits), nothing) =
+    let whole = Passes-append piece begin next (drop count begin) behind passes in
+    let after : drop count begin ++ behind ≡ drop count p = sym (drop_front count begin behind fits) ∙ ap (drop count) (sym split) in
+    subst (λ (b : List ℕ). Passes piece b next (drop count p)) (sym split) (subst (Passes piece (begin ++ behind) next) after whole)
+
+pub bad_in : (p : List ℕ) (piece : Piece) → JudgesFront judged.Bad piece p → IsBadAt piece p
+bad_in p piece (begin, behind, split, bad, nothing) = subst (IsBadAt piece) (sym split) (IsBadAt-append piece begin behind bad)
+
+pub open_in : (p : List ℕ) (piece : Piece) → JudgesFront judged.Open piece p → IsCutAt piece p
+open_in p piece (begin, behind, split, cut, nothing) = subst (IsCutAt piece) (sym (split ∙ append_none begin behind (nothing refl))) cut
+
 -- ---- on the stream
 
 pub piece_found : (old left : Option (List ℕ)) (p : List ℕ) (piece : Piece) (next : BodyState) (count : ℕ) → Keeps old (prepend_known p left)
-    → JudgesFront (judged.Whole next count) piece p → OnStream old (prepend_known (drop count p) left) (Takes (taken.Next next) piece)
+    → JudgesFront (judged.Whole next count) piece p → OnStream old (prepend_known (drop count p) left) (TakesPiece (Ok next) piece)
 piece_found None left p piece next count kept x = tt
 piece_found (Some a) None p piece next count kept x = kept
 piece_found (Some a) (Some q) p piece next count kept (begin, behind, split, (passes, some, fits), nothing) =
@@ -58,20 +75,20 @@ piece_found (Some a) (Some q) p piece next count kept (begin, behind, split, (pa
     subst (λ (b : List ℕ). Passes piece b next (drop count p ++ q)) before (subst (λ (r : List ℕ). Passes piece (begin ++ (behind ++ q)) next r) after whole)
 
 pub piece_bad : (old left : Option (List ℕ)) (p : List ℕ) (piece : Piece) → Keeps old (prepend_known p left) → JudgesFront judged.Bad piece p
-    → OnStream old (prepend_known p left) (Takes taken.Bad piece)
+    → OnStream old (prepend_known p left) (TakesPiece (Err stopped.Malformed) piece)
 piece_bad None left p piece kept x = tt
 piece_bad (Some a) None p piece kept x = kept
 piece_bad (Some a) (Some q) p piece kept (begin, behind, split, bad, nothing) =
     let before : begin ++ (behind ++ q) ≡ a = sym (append_assoc begin behind q) ∙ ap (λ (b : List ℕ). b ++ q) (sym split) ∙ kept in
-    (subst (IsBad piece) before (IsBad-append piece begin (behind ++ q) bad), kept)
+    (subst (IsBadAt piece) before (IsBadAt-append piece begin (behind ++ q) bad), kept)
 
 pub piece_cut : (old left : Option (List ℕ)) (p : List ℕ) (piece : Piece) → Keeps old (prepend_known p left) → IsAtEnd left → JudgesFront judged.Open piece p
-    → OnStream old (prepend_known p left) (Takes taken.Cut piece)
+    → OnStream old (prepend_known p left) (TakesPiece (Err stopped.Ended) piece)
 piece_cut None left p piece kept over x = tt
 piece_cut (Some a) None p piece kept over x = kept
 piece_cut (Some a) (Some q) p piece kept over (begin, behind, split, cut, nothing) =
     let before : begin ≡ a = sym (append-nil begin) ∙ ap (λ (b : List ℕ). begin ++ b) (sym (nothing refl)) ∙ sym split ∙ sym (append-nil p) ∙ ap (λ (b : List ℕ). p ++ b) (sym over) ∙ kept in
-    (subst (IsCut piece) before cut, kept)
+    (subst (IsCutAt piece) before cut, kept)
 
 pub passes_after : (piece : Piece) (bytes : List ℕ) (next : BodyState) (rest : List ℕ) → Passes piece bytes next rest → IsAfter piece next
 passes_after pieces.Gap bytes next rest x = x.1

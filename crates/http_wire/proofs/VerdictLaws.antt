@@ -3,7 +3,7 @@ use Rattle.std.proofs.Common.{◌≡◌, ℕ, ◌≤◌, true, List, ◌++◌, l
 use Rattle.std.proofs.lemmas.Bool.{false≢true}
 use Rattle.httparse.specs.Grammar.{RequestHead, print_request, ReadsRequest, HasNoRequest}
 use Rattle.httparse.proofs.GrammarLemmas.{request_unique}
-use Rattle.http_wire.specs.Heads.{has_line, IsOpen, BeginsWithHead, IsMalformed, IsOverfull, IsNothing, IsCut, Verdict, begins, is_nothing, is_cut, is_malformed, is_too_large, Holds}
+use Rattle.http_wire.specs.Heads.{has_line, IsOpen, BeginsWithHead, IsMalformed, IsOverfull, IsNothing, IsCutHead, Verdict, begins, is_nothing, is_cut, is_malformed, is_too_large, Holds}
 use Rattle.http_wire.proofs.LineLaws.{longer, has_line-append, no_line_in_blank, head_has_line}
 
 -- a front of a stream with a head, which is as long as the head, has it too
@@ -50,7 +50,7 @@ nothing_too_large : (bytes : List ℕ) → IsNothing bytes → Holds bytes is_to
 nothing_too_large bytes x (inl overfull) = omega (arith, overfull_is_long bytes overfull, x.0)
 nothing_too_large bytes x (inr (h, rest, y, many)) = head_not_nothing bytes h rest y.0 x
 
-cut_too_large : (bytes : List ℕ) → IsCut bytes → Holds bytes is_too_large → ⊥
+cut_too_large : (bytes : List ℕ) → IsCutHead bytes → Holds bytes is_too_large → ⊥
 cut_too_large bytes x (inl overfull) = omega (arith, overfull_is_long bytes overfull, x.0)
 cut_too_large bytes x (inr (h, rest, y, many)) = x.1.0 h rest y.0
 

@@ -66,16 +66,16 @@ Passes pieces.Line bytes next rest = (line : ChunkLine) × HasPiece IsChunkLine 
 Passes pieces.Trailer bytes next rest = (section : Section) × HasPiece IsSection print_trailer 16384 bytes section rest × (next ≡ states.Done)
 
 -- the bytes do not
-abbrev pub IsBad : Piece → List ℕ → Type 0
-IsBad pieces.Gap bytes = IsBadPiece IsGap print_gap 2 bytes
-IsBad pieces.Line bytes = IsBadPiece IsChunkLine print_chunk_line 1024 bytes
-IsBad pieces.Trailer bytes = IsBadPiece IsSection print_trailer 16384 bytes
+abbrev pub IsBadAt : Piece → List ℕ → Type 0
+IsBadAt pieces.Gap bytes = IsBadPiece IsGap print_gap 2 bytes
+IsBadAt pieces.Line bytes = IsBadPiece IsChunkLine print_chunk_line 1024 bytes
+IsBadAt pieces.Trailer bytes = IsBadPiece IsSection print_trailer 16384 bytes
 
 -- the input ends inside the piece
-abbrev pub IsCut : Piece → List ℕ → Type 0
-IsCut pieces.Gap bytes = IsCutPiece IsGap print_gap 2 bytes
-IsCut pieces.Line bytes = IsCutPiece IsChunkLine print_chunk_line 1024 bytes
-IsCut pieces.Trailer bytes = IsCutPiece IsSection print_trailer 16384 bytes
+abbrev pub IsCutAt : Piece → List ℕ → Type 0
+IsCutAt pieces.Gap bytes = IsCutPiece IsGap print_gap 2 bytes
+IsCutAt pieces.Line bytes = IsCutPiece IsChunkLine print_chunk_line 1024 bytes
+IsCutAt pieces.Trailer bytes = IsCutPiece IsSection print_trailer 16384 bytes
 
 -- ---- whole bodies
 
@@ -89,14 +89,13 @@ abbrev pub Goes : BodyState → List ℕ → BodyState → List ℕ → List ℕ
 Goes (states.Fixed n) bytes next decoded rest = (n ≤ length bytes) × (next ≡ states.Done) × (decoded ≡ take n bytes) × (rest ≡ drop n bytes)
 Goes (states.Data n) bytes next decoded rest = (n ≤ length bytes) × (next ≡ states.Before pieces.Gap) × (decoded ≡ take n bytes) × (rest ≡ drop n bytes)
 Goes (states.Before piece) bytes next decoded rest = Passes piece bytes next rest × (decoded ≡ [])
-Goes states.Done bytes next decoded rest = ⊥
-Goes states.Refused bytes next decoded rest = ⊥
+Goes state bytes next decoded rest = ⊥
 
 -- no step more
 abbrev pub Stops : BodyState → List ℕ → List ℕ → Outcome → Type 0
 Stops (states.Fixed n) bytes decoded outcome = (length bytes < n) × (decoded ≡ bytes) × (outcome ≡ is_cut_short)
 Stops (states.Data n) bytes decoded outcome = (length bytes < n) × (decoded ≡ bytes) × (outcome ≡ is_cut_short)
-Stops (states.Before piece) bytes decoded outcome = (decoded ≡ []) × ((IsBad piece bytes × (outcome ≡ is_malformed)) ⊎ (IsCut piece bytes × (outcome ≡ is_cut_short)))
+Stops (states.Before piece) bytes decoded outcome = (decoded ≡ []) × ((IsBadAt piece bytes × (outcome ≡ is_malformed)) ⊎ (IsCutAt piece bytes × (outcome ≡ is_cut_short)))
 Stops states.Done bytes decoded outcome = (decoded ≡ []) × (outcome ≡ ends_before bytes)
 Stops states.Refused bytes decoded outcome = (decoded ≡ []) × (outcome ≡ is_malformed)
 
@@ -110,17 +109,13 @@ pub data Runs : BodyState → List ℕ → List ℕ → Outcome → Type 0 where
 abbrev pub due : BodyState → ℕ
 due (states.Fixed n) = n
 due (states.Data n) = n
-due (states.Before piece) = 0
-due states.Done = 0
-due states.Refused = 0
+due state = 0
 
 -- the same, once so many of them have come
 abbrev pub less : BodyState → ℕ → BodyState
 less (states.Fixed n) count = states.Fixed (n - count)
 less (states.Data n) count = states.Data (n - count)
-less (states.Before piece) count = states.Before piece
-less states.Done count = states.Done
-less states.Refused count = states.Refused
+less state count = state
 
 -- the reader moved on, by steps that gave nothing
 pub data Skips : BodyState → List ℕ → BodyState → List ℕ → Type 0 where

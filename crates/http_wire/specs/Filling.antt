@@ -1,11 +1,10 @@
 -- Bodies of at most so many bytes, which are put into a stage.
-use Rattle.std.specs.Prelude.{◌≡◌, ℕ, ◌+◌, ◌-◌, ◌<◌, ◌≤◌, Bool, IsTrue, List, [], ◌++◌, length, take, ⊤}
+use Rattle.std.specs.Prelude.{◌≡◌, ℕ, ◌+◌, ◌-◌, ◌<◌, ◌≤◌, IsTrue, List, [], ◌++◌, length, take, ⊤}
+use Rattle.depot_api.specs.Stages.{Staged}
 use Rattle.http_wire.specs.declared.body.BodyState.{BodyState}
 use Rattle.http_wire.specs.declared.body.BodyState.TheVariants as states
 use Rattle.http_wire.specs.declared.body.BodyTaken.{BodyTaken}
 use Rattle.http_wire.specs.declared.body.BodyTaken.TheVariants as answers
-use Rattle.http_wire.specs.declared.taking.Put.{Put}
-use Rattle.http_wire.specs.declared.taking.Put.TheVariants as puts
 use Rattle.http_wire.specs.Bodies.{due, less, Outcome, ends_before, is_cut_short, is_malformed, Goes, Stops}
 
 -- how a body ends of which so many bytes may come: as any does, or it is too long
@@ -32,15 +31,6 @@ pub data FillsOn : ℕ → BodyState → List ℕ → List ℕ → BodyState →
       → FillsOn most old bytes before last behind → due last ≤ most - length before → length more ≤ due last → behind ≡ more ++ rest → new ≡ less last (length more)
       → given ≡ before ++ more → FillsOn most old bytes given new rest
 
--- whether a stage tells what it holds, how many bytes, and which
-pub record Staged : Type 0 where
-  pub tells : Bool
-  pub count : ℕ
-  pub bytes : List ℕ
-
-abbrev pub held : Bool → ℕ → List ℕ → Staged
-held tells count bytes = record { tells = tells; count = count; bytes = bytes }
-
 -- these bytes were put behind the staged ones
 abbrev pub Gains : Staged → Staged → List ℕ → Type 0
 Gains before now bytes = (now.count ≡ before.count + length bytes) × (IsTrue before.tells → now.bytes ≡ before.bytes ++ bytes)
@@ -52,60 +42,46 @@ GainsSome before now bytes most next =
     × (now.count ≤ before.count + length bytes + most)
     × (IsTrue before.tells → (some : ℕ) × (some ≤ most) × (some ≤ length next) × (now.bytes ≡ before.bytes ++ (bytes ++ take some next)))
 
--- a stage that tells what it holds has kept its bytes, and has what it gained behind them
-abbrev pub Extends : Staged → Staged → Type 0
-Extends before now = IsTrue before.tells → (more : List ℕ) × (now.bytes ≡ before.bytes ++ more)
+-- a stage is that of its path, and tells as it did; where it tells its bytes, they are those that it held, and more behind them
+pub record Extends (before now : Staged) : Type 0 where
+  pub path : now.path ≡ before.path
+  pub tells : now.tells ≡ before.tells
+  pub bytes : IsTrue before.tells → (more : List ℕ) × (now.bytes ≡ before.bytes ++ more)
 
 -- ---- what an answer says, of a call before which a reader stood in `first` and behind which it stands in `last`
 
 -- the stage gained the bytes that the reader gave; where the stage failed, also a front of the data that are due
 abbrev pub GainsGiven : BodyTaken → Staged → Staged → List ℕ → ℕ → List ℕ → Type 0
 GainsGiven (answers.Whole n) before now given left rest = Gains before now given × (n ≡ length given)
-GainsGiven answers.TooLong before now given left rest = Gains before now given
-GainsGiven answers.Cut before now given left rest = Gains before now given
-GainsGiven answers.Bad before now given left rest = Gains before now given
-GainsGiven answers.SourceFault before now given left rest = Gains before now given
-GainsGiven answers.Long before now given left rest = Gains before now given
 GainsGiven answers.StageFault before now given left rest = GainsSome before now given left rest
-GainsGiven answers.NoMemory before now given left rest = Gains before now given
+GainsGiven answer before now given left rest = Gains before now given
 
 -- the reader moved on, and the stage has what it gave
 abbrev pub TakesBody : BodyTaken → ℕ → BodyState → List ℕ → BodyState → List ℕ → Staged → Staged → Type 0
-TakesBody answer most first old last new before now = (given : List ℕ) × FillsOn most first old given last new × GainsGiven answer before now given (due last) new
+TakesBody answer most first old last new before now =
+    (given : List ℕ) × FillsOn most first old given last new × GainsGiven answer before now given (due last) new
 
 -- no step more, where the answer says how the body ended: the next call says the same
-abbrev pub IsStopOf : BodyTaken → BodyState → List ℕ → Type 0
-IsStopOf (answers.Whole n) last rest = Stops last rest [] (ends_before rest)
-IsStopOf answers.TooLong last rest = ⊤
-IsStopOf answers.Cut last rest = Stops last rest [] is_cut_short
-IsStopOf answers.Bad last rest = Stops last rest [] is_malformed
-IsStopOf answers.SourceFault last rest = ⊤
-IsStopOf answers.Long last rest = ⊤
-IsStopOf answers.StageFault last rest = ⊤
-IsStopOf answers.NoMemory last rest = ⊤
+abbrev pub IsTakingEnd : BodyTaken → BodyState → List ℕ → Type 0
+IsTakingEnd (answers.Whole n) last rest = Stops last rest [] (ends_before rest)
+IsTakingEnd answers.Cut last rest = Stops last rest [] is_cut_short
+IsTakingEnd answers.Bad last rest = Stops last rest [] is_malformed
+IsTakingEnd answer last rest = ⊤
 
--- after so many decoded bytes: where the body is too long those that are due would pass the limit, and at the other answers they
--- would not; where the stage failed that is told of those that are due alone, for it may hold some of them
+-- after so many decoded bytes: where the body is too long those that are due would pass the limit, and at the other answers
+-- they would not. A stage fails only where data are due, and it may hold some of them
 abbrev pub KeepsLimit : BodyTaken → ℕ → ℕ → ℕ → Type 0
-KeepsLimit (answers.Whole n) most count left = count + left ≤ most
 KeepsLimit answers.TooLong most count left = most < count + left
-KeepsLimit answers.Cut most count left = count + left ≤ most
-KeepsLimit answers.Bad most count left = count + left ≤ most
-KeepsLimit answers.SourceFault most count left = count + left ≤ most
-KeepsLimit answers.Long most count left = count + left ≤ most
-KeepsLimit answers.StageFault most count left = left ≤ most
-KeepsLimit answers.NoMemory most count left = count + left ≤ most
+KeepsLimit answers.StageFault most count left = (0 < left) × (left ≤ most)
+KeepsLimit answers.NoMemory most count left = (0 < left) × (count + left ≤ most)
+KeepsLimit answer most count left = count + left ≤ most
 
 -- of a body of which n bytes are due by its Content-Length
 abbrev pub AnswersLength : BodyTaken → ℕ → ℕ → Type 0
 AnswersLength (answers.Whole count) n most = (count ≡ n) × (n ≤ most)
 AnswersLength answers.TooLong n most = most < n
-AnswersLength answers.Cut n most = (0 < n) × (n ≤ most)
 AnswersLength answers.Bad n most = ⊥
-AnswersLength answers.SourceFault n most = (0 < n) × (n ≤ most)
-AnswersLength answers.Long n most = (0 < n) × (n ≤ most)
-AnswersLength answers.StageFault n most = (0 < n) × (n ≤ most)
-AnswersLength answers.NoMemory n most = (0 < n) × (n ≤ most)
+AnswersLength answer n most = (0 < n) × (n ≤ most)
 
 -- what the state in which the reader stood tells of the answer, whatever the source gives
 abbrev pub CanAnswer : BodyState → ℕ → BodyTaken → Type 0
@@ -115,42 +91,11 @@ CanAnswer (states.Before piece) most answer = ⊤
 CanAnswer states.Done most answer = answer ≡ answers.Whole 0
 CanAnswer states.Refused most answer = answer ≡ answers.Bad
 
--- ---- the parts of a call
-
--- some bytes were taken off the stream and put behind the staged ones, or none
-abbrev pub PutsSome : Put → ℕ → List ℕ → List ℕ → Staged → Staged → Type 0
-PutsSome (puts.Bytes n) most old new before now = (bytes : List ℕ) × (old ≡ bytes ++ new) × (length bytes ≡ n) × Gains before now bytes
-PutsSome puts.Cut most old new before now = (old ≡ []) × (new ≡ []) × Gains before now []
-PutsSome puts.SourceFault most old new before now = (new ≡ old) × Gains before now []
-PutsSome puts.Long most old new before now = (new ≡ old) × Gains before now []
-PutsSome puts.StageFault most old new before now = (new ≡ old) × GainsSome before now [] most new
-PutsSome puts.NoMemory most old new before now = (new ≡ old) × Gains before now []
-
--- how many, also where a device does not tell which
-abbrev pub PutsUpTo : Put → ℕ → ℕ → ℕ → Type 0
-PutsUpTo (puts.Bytes n) most before now = (0 < n) × (n ≤ most) × (now ≡ before + n)
-PutsUpTo puts.Cut most before now = now ≡ before
-PutsUpTo puts.SourceFault most before now = now ≡ before
-PutsUpTo puts.Long most before now = now ≡ before
-PutsUpTo puts.StageFault most before now = (before ≤ now) × (now ≤ before + most)
-PutsUpTo puts.NoMemory most before now = now ≡ before
-
--- the answer is one that a stage gives
-abbrev pub IsOfStage : Put → Type 0
-IsOfStage (puts.Bytes n) = ⊤
-IsOfStage puts.Cut = ⊥
-IsOfStage puts.SourceFault = ⊥
-IsOfStage puts.Long = ⊥
-IsOfStage puts.StageFault = ⊤
-IsOfStage puts.NoMemory = ⊤
+-- bytes that do not say yet how the body ends: more have to come
+abbrev pub IsBodyOpen : ℕ → BodyState → List ℕ → Type 0
+IsBodyOpen most state bytes = (decoded : List ℕ) × Fills most state bytes decoded (within is_cut_short)
 
 -- P of the number of bytes of a whole body
 abbrev pub IfWhole : BodyTaken → (ℕ → Type 0) → Type 0
 IfWhole (answers.Whole n) P = P n
-IfWhole answers.TooLong P = ⊤
-IfWhole answers.Cut P = ⊤
-IfWhole answers.Bad P = ⊤
-IfWhole answers.SourceFault P = ⊤
-IfWhole answers.Long P = ⊤
-IfWhole answers.StageFault P = ⊤
-IfWhole answers.NoMemory P = ⊤
+IfWhole answer P = ⊤

@@ -43,8 +43,8 @@ abbrev pub IsNothing : List ℕ → Type 0
 IsNothing bytes = (length bytes < 16384) × (list_all is_newline bytes ≡ true)
 
 -- fewer bytes, not CR and LF alone, and open
-abbrev pub IsCut : List ℕ → Type 0
-IsCut bytes = (length bytes < 16384) × IsOpen bytes × (list_all is_newline bytes ≡ false)
+abbrev pub IsCutHead : List ℕ → Type 0
+IsCutHead bytes = (length bytes < 16384) × IsOpen bytes × (list_all is_newline bytes ≡ false)
 
 -- what can be said of a stream
 pub data Verdict : Type 0 where
@@ -55,6 +55,6 @@ pub data Verdict : Type 0 where
 abbrev pub Holds : List ℕ → Verdict → Type 0
 Holds bytes (begins h rest) = BeginsWithHead bytes h rest × (length h.fields ≤ 64)
 Holds bytes is_nothing = IsNothing bytes
-Holds bytes is_cut = IsCut bytes
+Holds bytes is_cut = IsCutHead bytes
 Holds bytes is_malformed = IsMalformed bytes
 Holds bytes is_too_large = IsOverfull bytes ⊎ HasManyFields bytes

@@ -8,3 +8,7 @@ pub mod Bodies
 pub mod BodyAnswers
 pub mod Messages
 pub mod Filling
+pub mod InnerHeads
+pub mod InnerPieces
+pub mod InnerReaching
+pub mod InnerPuts

@@ -2,8 +2,10 @@
 ghost use Rattle.std.specs.Prelude.{◌≡◌, ◌≤◌};
 ghost use Rattle.http_wire.specs.Bodies.{due, less};
 ghost use Rattle.http_wire.specs.BodyAnswers.{state_of, first_state};
+ghost use Rattle.http_wire.specs.InnerReaching.{step_of, taking_of};
 
 use crate::Framing;
+use crate::stop::Stop;
 
 /// What has to come before more data of a chunked body (RFC 9112, section 7.1).
 #[derive(Clone, Copy, Debug, PartialEq, Eq)]
@@ -37,7 +39,7 @@ pub struct BodyReader {
 /// What one step of a body gave.
 #[derive(Clone, Copy, Debug, PartialEq, Eq)]
 pub enum BodyStep {
-    /// So many decoded bytes stand at the front of the room.
+    /// So many decoded bytes stand at the front of the buffer.
     Bytes(usize),
     /// The body is whole.
     End,
@@ -69,6 +71,34 @@ pub enum BodyTaken {
     /// The stage failed, and its count of faults rose.
     StageFault,
     NoMemory,
+}
+
+impl BodyStep {
+    /// What a reader that stopped so answers.
+    pub(crate) fn of(stop: Stop) -> BodyStep
+        ensures { result ≡ step_of stop }
+    {
+        match stop {
+            Stop::Ended => BodyStep::Cut,
+            Stop::Malformed => BodyStep::Bad,
+            Stop::SourceFault => BodyStep::SourceFault,
+            Stop::Long => BodyStep::Long,
+        }
+    }
+}
+
+impl BodyTaken {
+    /// What a reader that stopped so answers.
+    pub(crate) fn of(stop: Stop) -> BodyTaken
+        ensures { result ≡ taking_of stop }
+    {
+        match stop {
+            Stop::Ended => BodyTaken::Cut,
+            Stop::Malformed => BodyTaken::Bad,
+            Stop::SourceFault => BodyTaken::SourceFault,
+            Stop::Long => BodyTaken::Long,
+        }
+    }
 }
 
 impl BodyReader {

@@ -1,10 +1,10 @@
 //! Bytes that have come from a source, and were not read yet.
-ghost use Rattle.std.specs.Prelude.{◌≡◌, ℕ, ◌+◌, ◌-◌, ◌^◌, ◌<◌, ◌≤◌, ◌≢◌, [], ◌++◌, min, length, vec_len, take, drop, slice_range, IfOk, IsErr, MatchResult};
+ghost use Rattle.std.specs.Prelude.{◌≡◌, ℕ, ◌+◌, ◌-◌, ◌^◌, ◌<◌, ◌≤◌, [], ◌++◌, min, length, vec_len, take, drop, slice_range, IfOk, OnOk, OnErr, IsErr, IsErrOf, MatchResult};
 ghost use Rattle.std.specs.Io.KnownBytes.{ReadConsumes, Keeps, IsAtEnd};
 ghost use Rattle.reg_names.specs.Cause.{HasCause};
 ghost use Rattle.depot_api.specs.Streams.{counted};
-ghost use Rattle.http_wire.specs.Answers.{Judges};
-ghost use Rattle.http_wire.specs.BodyAnswers.{JudgesFront, FitsFront};
+ghost use Rattle.http_wire.specs.InnerHeads.{Judges};
+ghost use Rattle.http_wire.specs.InnerPieces.{JudgesFront, FitsFront};
 ghost use Rattle.http_wire.specs.Flow.{stream, IsBounded, Counts};
 ghost use Rattle.http_wire.specs.Flow as words;
 
@@ -12,6 +12,7 @@ use crate::NoMemory;
 use crate::body::Piece;
 use crate::judge::{Judged, judge};
 use crate::pieces::{PieceJudged, judge_piece, limit};
+use crate::stop::Stop;
 use depot_api::{Source, SourceFault};
 use httparse::spans::{EMPTY_HEADER_SPAN, HeaderSpan};
 use std::alloc::Global;
@@ -39,7 +40,6 @@ pub struct Feed {
 
 impl Model for Feed {
     ghost use Rattle.std.specs.Prelude.{◌≡◌, ◌+◌, ◌-◌, ◌^◌, ◌<◌, ◌≤◌, slice_range, length};
-    ghost use Rattle.http_wire.specs.Answers.{Judges};
     ghost use Rattle.http_wire.specs.Flow.{Flow};
 
     ghost Value = { Flow };
@@ -47,16 +47,6 @@ impl Model for Feed {
     ghost view = { λ f. record { pending = slice_range f.buffer.items f.start f.end; taken = f.taken } };
 
     ghost invariant = { λ f. (f.start ≤ f.end) × (f.end ≤ 16384) × (length f.buffer.items ≡ 16384) × (length f.spans.items ≡ 8192) × (f.taken < 2 ^ 50 + 2 ^ 15) × (f.end - f.start ≤ f.taken) };
-}
-
-/// What came of a try to get more bytes.
-#[derive(Clone, Copy, Debug, PartialEq, Eq)]
-pub(crate) enum Refill {
-    More,
-    /// The input has ended.
-    Ended,
-    SourceFault,
-    Long,
 }
 
 impl Feed {
@@ -127,48 +117,53 @@ impl Feed {
     }
 
     /// Reads once from the source, where no bytes wait.
-    pub(crate) fn wait<S: Source>(&mut self, source: &mut S) -> Refill
+    pub(crate) fn wait<S: Source>(&mut self, source: &mut S) -> Result<(), Stop>
         ensures bytes { Keeps (stream self.old (S.left source.old)) (stream self.new (S.left source.new)) }
-        ensures some { result ≡ Refill.More → 0 < length self.new.pending }
-        ensures ended { result ≡ Refill.Ended → (self.new.pending ≡ []) × IsAtEnd (S.left source.new) }
-        ensures cause { HasCause (S.faults source.old) (S.faults source.new) (result ≡ Refill.SourceFault) }
-        ensures long { result ≡ Refill.Long → 2 ^ 50 ≤ self.new.taken }
+        ensures some { OnOk result (0 < length self.new.pending) }
+        ensures ended { IsErrOf result Stop.Ended → (self.new.pending ≡ []) × IsAtEnd (S.left source.new) }
+        ensures at_hand { 0 < length self.old.pending → (source.new ≡ source.old) × (self.new ≡ self.old) }
+        ensures sound { ¬ (IsErrOf result Stop.Malformed) }
+        ensures cause { HasCause (S.faults source.old) (S.faults source.new) (IsErrOf result Stop.SourceFault) }
+        ensures long { IsErrOf result Stop.Long → 2 ^ 50 ≤ self.new.taken }
         ensures counts { Counts self.old (S.given source.old) self.new (S.given source.new) }
+        ensures bounded { IsBounded self.new }
         ensures read_already { words.spent self.new ≡ words.spent self.old }
     {
         if !self.pending().is_empty() {
-            return Refill::More;
+            return Ok(());
         }
         self.refill(source)
     }
 
     /// Reads once from the source, behind the bytes that wait.
-    pub(crate) fn refill<S: Source>(&mut self, source: &mut S) -> Refill
+    pub(crate) fn refill<S: Source>(&mut self, source: &mut S) -> Result<(), Stop>
         requires { length self.old.pending < 16384 }
         ensures bytes { Keeps (stream self.old (S.left source.old)) (stream self.new (S.left source.new)) }
-        ensures grows { result ≡ Refill.More → length self.old.pending < length self.new.pending }
-        ensures kept { result ≢ Refill.More → self.new ≡ self.old }
-        ensures ended { result ≡ Refill.Ended → IsAtEnd (S.left source.new) }
-        ensures cause { HasCause (S.faults source.old) (S.faults source.new) (result ≡ Refill.SourceFault) }
-        ensures long { result ≡ Refill.Long → 2 ^ 50 ≤ self.new.taken }
+        ensures grows { OnOk result (length self.old.pending < length self.new.pending) }
+        ensures kept { OnErr result (self.new ≡ self.old) }
+        ensures ended { IsErrOf result Stop.Ended → IsAtEnd (S.left source.new) }
+        ensures sound { ¬ (IsErrOf result Stop.Malformed) }
+        ensures cause { HasCause (S.faults source.old) (S.faults source.new) (IsErrOf result Stop.SourceFault) }
+        ensures long { IsErrOf result Stop.Long → 2 ^ 50 ≤ self.new.taken }
         ensures counts { Counts self.old (S.given source.old) self.new (S.given source.new) }
+        ensures bounded { IsBounded self.new }
         ensures read_already { words.spent self.new ≡ words.spent self.old }
     {
         if self.taken >= MOST_TAKEN {
-            return Refill::Long;
+            return Err(Stop::Long);
         }
         let waiting = self.end - self.start;
         let outcome = fill(&mut self.buffer, self.start, self.end, source);
         self.start = 0;
         self.end = waiting;
         match outcome {
-            Ok(0) => Refill::Ended,
+            Ok(0) => Err(Stop::Ended),
             Ok(count) => {
                 self.end = waiting + count;
                 self.taken += count as u64;
-                Refill::More
+                Ok(())
             }
-            Err(SourceFault) => Refill::SourceFault,
+            Err(SourceFault) => Err(Stop::SourceFault),
         }
     }
 }

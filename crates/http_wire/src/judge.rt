@@ -5,7 +5,7 @@ ghost use Rattle.httparse.specs.Pieces.{is_newline};
 ghost use Rattle.std.specs.Str.{IsUtf8};
 ghost use Rattle.httparse.specs.Grammar.{RequestHead};
 ghost use Rattle.httparse.specs.Spans.{IsWithin, IsHeaderWithin, IsRequestAt, IsRequestWithin, header_bytes, span_bytes};
-ghost use Rattle.http_wire.specs.Answers.{Judges, Parses};
+ghost use Rattle.http_wire.specs.InnerHeads.{Judges, Parses};
 ghost use Rattle.http_wire.specs.Fields.{field_parts, Shows};
 ghost use Rattle.http_wire.specs.Heads as heads;
 

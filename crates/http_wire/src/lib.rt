@@ -17,9 +17,8 @@ mod questions;
 mod reach;
 mod reading;
 mod reading_body;
+mod stop;
 mod taking;
-#[cfg(test)]
-mod tests;
 
 pub use body::{BodyReader, BodyStep, BodyTaken};
 pub use depot_api::{Bytes, NoMemory, Source, SourceFault, Stage, Text};

@@ -1,13 +1,14 @@
 //! The pieces of a chunked body that stand between its data.
-ghost use Rattle.std.specs.Prelude.{◌≡◌, ℕ, ◌+◌, ◌<◌, ◌≤◌, ◌^◌, List, length, take, drop, min, false};
+ghost use Rattle.std.specs.Prelude.{◌≡◌, ℕ, ◌+◌, ◌<◌, ◌≤◌, ◌⊎◌, ◌^◌, List, length, take, drop, min, false, IfOk, OnOk, IsErrOf};
 ghost use Rattle.std.specs.Io.KnownBytes.{Keeps, IsAtEnd};
 ghost use Rattle.reg_names.specs.Cause.{HasCause};
-ghost use Rattle.http_wire.specs.BodyAnswers.{limit_of, JudgesPiece, IsBehind, Takes};
 ghost use Rattle.http_wire.specs.Bodies as bodies;
+ghost use Rattle.http_wire.specs.Bodies.{IsCutAt};
+ghost use Rattle.http_wire.specs.InnerPieces.{limit_of, JudgesPiece, IsAfter, TakesPiece};
 ghost use Rattle.http_wire.specs.Flow.{stream, spent, IsBounded, OnStream, Counts};
 
 use crate::body::{BodyState, Piece};
-use crate::feed::Refill;
+use crate::stop::Stop;
 use crate::{Feed, Source};
 use httparse::spans::{HeaderSpan, parse_headers};
 use httparse::{Status, parse_chunk_size};
@@ -22,16 +23,6 @@ pub(crate) enum PieceJudged {
     Bad,
     /// More bytes have to come.
     Open,
-}
-
-/// What came of the try to take a piece off a stream.
-#[derive(Clone, Copy, Debug, PartialEq, Eq)]
-pub(crate) enum Taken {
-    Next(BodyState),
-    Bad,
-    Cut,
-    SourceFault,
-    Long,
 }
 
 /// The most bytes of a piece.
@@ -105,46 +96,48 @@ fn judge_trailer(bytes: &[u8], spans: &mut [HeaderSpan]) -> PieceJudged
     }
 }
 
-/// Takes a piece off the stream. With any answer but `Next` the stream is as it was.
-pub(crate) fn take_piece<S: Source>(feed: &mut Feed, source: &mut S, piece: Piece) -> Taken
-    ensures answer { OnStream (stream feed.old (S.left source.old)) (stream feed.new (S.left source.new)) (Takes result piece) }
-    ensures next { IsBehind result piece }
+/// Takes a piece off the stream, and answers where a reader stands behind it. With an error the stream is as it was.
+pub(crate) fn take_piece<S: Source>(
+    feed: &mut Feed,
+    source: &mut S,
+    piece: Piece,
+) -> Result<BodyState, Stop>
+    ensures answer { OnStream (stream feed.old (S.left source.old)) (stream feed.new (S.left source.new)) (TakesPiece result piece) }
+    ensures next { IfOk result (IsAfter piece) }
+    ensures at_hand { ((source.new ≡ source.old) × TakesPiece result piece feed.old.pending feed.new.pending)
+        ⊎ IsCutAt piece feed.old.pending }
+    ensures at_end { IsErrOf result Stop.Ended → IsAtEnd (S.left source.new) }
     ensures bounded { IsBounded feed.new }
     ensures progress { spent feed.old ≤ spent feed.new }
-    ensures cause { HasCause (S.faults source.old) (S.faults source.new) (result ≡ Taken.SourceFault) }
-    ensures long { result ≡ Taken.Long → 2 ^ 50 ≤ feed.new.taken }
+    ensures cause { HasCause (S.faults source.old) (S.faults source.new) (IsErrOf result Stop.SourceFault) }
+    ensures long { IsErrOf result Stop.Long → 2 ^ 50 ≤ feed.new.taken }
     ensures counts { Counts feed.old (S.given source.old) feed.new (S.given source.new) }
 {
     loop {
         match feed.judge_piece(piece) {
             PieceJudged::Whole(next, count) => {
                 feed.skip(count);
-                return Taken::Next(next);
+                return Ok(next);
             }
-            PieceJudged::Bad => return Taken::Bad,
-            PieceJudged::Open => {}
-        }
-        match read_on(feed, source, piece) {
-            Refill::More => {}
-            Refill::Ended => return Taken::Cut,
-            Refill::SourceFault => return Taken::SourceFault,
-            Refill::Long => return Taken::Long,
+            PieceJudged::Bad => return Err(Stop::Malformed),
+            PieceJudged::Open => read_on(feed, source, piece)?,
         }
     }
 }
 
-// Reads behind bytes that were judged, until those that wait are to be judged again. What comes in driblets is judged
+// Reads behind bytes that were judged, until those that wait are to be judged again. What comes in short reads is judged
 // when it may be whole, and else when it has grown to twice its length: so the bytes of a piece are gone through a few
 // times in all.
-fn read_on<S: Source>(feed: &mut Feed, source: &mut S, piece: Piece) -> Refill
+fn read_on<S: Source>(feed: &mut Feed, source: &mut S, piece: Piece) -> Result<(), Stop>
     requires { length feed.old.pending < 16384 }
     ensures bytes { Keeps (stream feed.old (S.left source.old)) (stream feed.new (S.left source.new)) }
-    ensures grows { result ≡ Refill.More → length feed.old.pending < length feed.new.pending }
-    ensures kept { result ≡ Refill.Ended → feed.new ≡ feed.old }
-    ensures ended { result ≡ Refill.Ended → IsAtEnd (S.left source.new) }
+    ensures grows { OnOk result (length feed.old.pending < length feed.new.pending) }
+    ensures kept { IsErrOf result Stop.Ended → feed.new ≡ feed.old }
+    ensures ended { IsErrOf result Stop.Ended → IsAtEnd (S.left source.new) }
+    ensures sound { ¬ (IsErrOf result Stop.Malformed) }
     ensures bounded { IsBounded feed.new }
-    ensures cause { HasCause (S.faults source.old) (S.faults source.new) (result ≡ Refill.SourceFault) }
-    ensures long { result ≡ Refill.Long → 2 ^ 50 ≤ feed.new.taken }
+    ensures cause { HasCause (S.faults source.old) (S.faults source.new) (IsErrOf result Stop.SourceFault) }
+    ensures long { IsErrOf result Stop.Long → 2 ^ 50 ≤ feed.new.taken }
     ensures counts { Counts feed.old (S.given source.old) feed.new (S.given source.new) }
     ensures read_already { spent feed.new ≡ spent feed.old }
 {
@@ -152,10 +145,10 @@ fn read_on<S: Source>(feed: &mut Feed, source: &mut S, piece: Piece) -> Refill
     let mut seen = judged;
     loop {
         match feed.refill(source) {
-            Refill::More if is_due(piece, feed.pending(), judged, seen) => return Refill::More,
-            Refill::More => seen = feed.pending().len(),
-            Refill::Ended if seen > judged => return Refill::More,
-            other => return other,
+            Ok(()) if is_due(piece, feed.pending(), judged, seen) => return Ok(()),
+            Ok(()) => seen = feed.pending().len(),
+            Err(Stop::Ended) if seen > judged => return Ok(()),
+            stopped => return stopped,
         }
     }
 }

@@ -1,12 +1,14 @@
 //! Reading the head of a request.
 ghost use Rattle.std.specs.Prelude.{◌≡◌, ℕ, ◌^◌, ◌<◌, ◌≤◌, ◌⊎◌, List};
+ghost use Rattle.std.specs.Io.KnownBytes.{IsAtEnd};
 ghost use Rattle.reg_names.specs.Cause.{HasCause};
-ghost use Rattle.http_wire.specs.Answers.{IfHead, IfBad, Tells, EndsAs};
+ghost use Rattle.http_wire.specs.Answers.{IfHead, IfBad, TellsHead, IsEndOfInput, IsHeadOpen};
+ghost use Rattle.http_wire.specs.InnerHeads.{EndsAs};
 ghost use Rattle.http_wire.specs.Flow.{stream, spent, IsBounded, OnStream, Counts};
 ghost use Rattle.http_wire.specs.Heads.{Verdict, Holds};
 
-use crate::feed::Refill;
 use crate::judge::{Judged, is_blank};
+use crate::stop::Stop;
 use crate::{Feed, Heading, Source};
 use std::alloc::Global;
 
@@ -16,15 +18,20 @@ use std::alloc::Global;
 /// head takes memory.
 pub fn read_head<S: Source>(alloc: Global, feed: &mut Feed, source: &mut S) -> Heading
     // What the bytes are: the waiting ones and those that the source has left.
-    ensures answer { OnStream (stream feed.old (S.left source.old)) (stream feed.new (S.left source.new)) (Tells result) }
+    ensures answer { OnStream (stream feed.old (S.left source.old)) (stream feed.new (S.left source.new)) (TellsHead result) }
 
     // Also where the source does not tell its bytes.
     ensures minor { IfHead result (λ head. head.minor ≤ 1) }
     ensures refusal { IfBad result (λ number. (number ≡ 18) ⊎ (number ≡ 19)) }
 
+    // The source is not read where what waits is a head, or is refused, and it has ended where the answer says so.
+    ensures at_hand { ¬ (IsHeadOpen feed.old.pending) → source.new ≡ source.old }
+    ensures at_end { IsEndOfInput result → IsAtEnd (S.left source.new) }
+
     // That readers come to an end.
     ensures bounded { IsBounded feed.new }
-    ensures progress { IfHead result (λ _. spent feed.old < spent feed.new) }
+    ensures progress { spent feed.old ≤ spent feed.new }
+    ensures heads { IfHead result (λ _. spent feed.old < spent feed.new) }
 
     // Why it gave up.
     ensures cause { HasCause (S.faults source.old) (S.faults source.new) (result ≡ Heading.SourceFault) }
@@ -42,10 +49,11 @@ pub fn read_head<S: Source>(alloc: Global, feed: &mut Feed, source: &mut S) -> H
             Judged::Open => {}
         }
         match feed.refill(source) {
-            Refill::More => {}
-            Refill::Ended => return ended(feed.pending()),
-            Refill::SourceFault => return Heading::SourceFault,
-            Refill::Long => return Heading::Long,
+            Ok(()) => {}
+            Err(Stop::Ended) => return ended(feed.pending()),
+            Err(Stop::SourceFault) => return Heading::SourceFault,
+            Err(Stop::Long) => return Heading::Long,
+            Err(Stop::Malformed) => unreachable!(),
         }
     }
 }

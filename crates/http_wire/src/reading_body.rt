@@ -1,14 +1,14 @@
 //! Reading the body of a request.
-ghost use Rattle.std.specs.Prelude.{◌≡◌, ℕ, ◌+◌, ◌<◌, ◌≤◌, ◌^◌, List, [], ◌++◌, length, take};
-ghost use Rattle.std.specs.Io.KnownBytes.{Consumes};
+ghost use Rattle.std.specs.Prelude.{◌≡◌, ℕ, ◌+◌, ◌<◌, ◌≤◌, ◌⊎◌, ◌^◌, List, [], ◌++◌, length, take, IfOk, IsErrOf};
+ghost use Rattle.std.specs.Io.KnownBytes.{Consumes, IsAtEnd};
 ghost use Rattle.reg_names.specs.Cause.{HasCause};
-ghost use Rattle.http_wire.specs.Bodies.{Outcome, Runs, Moves};
-ghost use Rattle.http_wire.specs.BodyAnswers as answers;
-ghost use Rattle.http_wire.specs.BodyAnswers.{state_of, given, IsStopOf, IsOfData, CanStep, IfBytes, GivesSome};
+ghost use Rattle.http_wire.specs.Bodies.{Outcome, Runs, Moves, is_cut_short};
+ghost use Rattle.http_wire.specs.BodyAnswers.{state_of, given, count_of, IsStepEnd, CanStep, IfBytes};
 ghost use Rattle.http_wire.specs.Flow.{stream, spent, IsBounded, OnStream, Counts};
+ghost use Rattle.http_wire.specs.InnerReaching.{GivesData};
 
-use crate::feed::Refill;
-use crate::reach::{Reached, reach_data};
+use crate::reach::reach_data;
+use crate::stop::Stop;
 use crate::{BodyReader, BodyStep, Feed, Source};
 
 /// Reads the next decoded bytes of a body (RFC 9112, sections 6 and 7) into the front of `into`, or says how the body
@@ -25,14 +25,19 @@ pub fn read_body<S: Source>(
     ensures moved { OnStream (stream feed.old (S.left source.old)) (stream feed.new (S.left source.new))
         (λ old new. Moves (state_of body.old) old (given result into.new) (state_of body.new) new) }
     ensures ended { OnStream (stream feed.old (S.left source.old)) (stream feed.new (S.left source.new))
-        (λ old new. IsStopOf result (state_of body.new) new) }
+        (λ old new. IsStepEnd result (state_of body.new) new) }
 
     // Also where the source does not tell its bytes.
     ensures known { CanStep (state_of body.old) result }
     ensures some { IfBytes result (λ n. (n ≤ length into.new) × (0 < length into.new → 0 < n)) }
 
+    // The source is not read where what waits gives data, or ends the body, and it has ended where the answer says so.
+    ensures at_hand { ¬ (Runs (state_of body.old) feed.old.pending [] is_cut_short) → source.new ≡ source.old }
+    ensures at_end { result ≡ BodyStep.Cut → IsAtEnd (S.left source.new) }
+
     // That readers come to an end.
-    ensures progress { IfBytes result (λ n. IsBounded feed.new × (spent feed.old + n ≤ spent feed.new)) }
+    ensures progress { spent feed.old + count_of result ≤ spent feed.new }
+    ensures bounded { IfBytes result (λ _. IsBounded feed.new) }
 
     // Why it gave up.
     ensures cause { HasCause (S.faults source.old) (S.faults source.new) (result ≡ BodyStep.SourceFault) }
@@ -40,50 +45,42 @@ pub fn read_body<S: Source>(
     ensures counts { Counts feed.old (S.given source.old) feed.new (S.given source.new) }
 {
     match reach_data(feed, source, body) {
-        Reached::Data(left) => {
-            let step = read_data(feed, source, left, into);
-            body.pass(count_of(step));
-            step
-        }
-        Reached::End => BodyStep::End,
-        Reached::Cut => BodyStep::Cut,
-        Reached::Bad => BodyStep::Bad,
-        Reached::SourceFault => BodyStep::SourceFault,
-        Reached::Long => BodyStep::Long,
-    }
-}
-
-// How many bytes a step gave.
-fn count_of(step: BodyStep) -> u64
-    ensures { result ≡ answers.count_of step }
-{
-    match step {
-        BodyStep::Bytes(count) => count as u64,
-        _ => 0,
+        Ok(0) => BodyStep::End,
+        Ok(left) => match read_data(feed, source, left, into) {
+            Ok(count) => {
+                body.pass(count as u64);
+                BodyStep::Bytes(count)
+            }
+            Err(stop) => BodyStep::of(stop),
+        },
+        Err(stop) => BodyStep::of(stop),
     }
 }
 
 // Reads some of the `left` bytes that stand in the stream as they are.
-fn read_data<S: Source>(feed: &mut Feed, source: &mut S, left: u64, into: &mut [u8]) -> BodyStep
+fn read_data<S: Source>(
+    feed: &mut Feed,
+    source: &mut S,
+    left: u64,
+    into: &mut [u8],
+) -> Result<usize, Stop>
     requires { 0 < left }
-    ensures bytes { OnStream (stream feed.old (S.left source.old)) (stream feed.new (S.left source.new)) (GivesSome result into.new) }
-    ensures few { answers.count_of result ≤ left }
-    ensures known { IsOfData left result }
-    ensures some { IfBytes result (λ n. (n ≤ length into.new) × (0 < length into.new → 0 < n)) }
-    ensures progress { IfBytes result (λ n. IsBounded feed.new × (spent feed.old + n ≤ spent feed.new)) }
-    ensures cause { HasCause (S.faults source.old) (S.faults source.new) (result ≡ BodyStep.SourceFault) }
-    ensures long { result ≡ BodyStep.Long → 2 ^ 50 ≤ feed.new.taken }
+    ensures bytes { OnStream (stream feed.old (S.left source.old)) (stream feed.new (S.left source.new)) (GivesData result into.new) }
+    ensures few { IfOk result (λ n. n ≤ left) }
+    ensures some { IfOk result (λ n. (n ≤ length into.new) × (0 < length into.new → 0 < n)) }
+    ensures sound { ¬ (IsErrOf result Stop.Malformed) }
+    ensures at_hand { (source.new ≡ source.old) ⊎ (feed.old.pending ≡ []) }
+    ensures at_end { IsErrOf result Stop.Ended → IsAtEnd (S.left source.new) }
+    ensures bounded { IsBounded feed.new }
+    ensures progress { spent feed.old ≤ spent feed.new }
+    ensures passed { IfOk result (λ n. spent feed.old + n ≤ spent feed.new) }
+    ensures cause { HasCause (S.faults source.old) (S.faults source.new) (IsErrOf result Stop.SourceFault) }
+    ensures long { IsErrOf result Stop.Long → 2 ^ 50 ≤ feed.new.taken }
     ensures counts { Counts feed.old (S.given source.old) feed.new (S.given source.new) }
 {
-    match feed.wait(source) {
-        Refill::More => {
-            let room = (into.len() as u64).min(left) as usize;
-            BodyStep::Bytes(feed.copy_to(&mut into[..room]))
-        }
-        Refill::Ended => BodyStep::Cut,
-        Refill::SourceFault => BodyStep::SourceFault,
-        Refill::Long => BodyStep::Long,
-    }
+    feed.wait(source)?;
+    let room = (into.len() as u64).min(left) as usize;
+    Ok(feed.copy_to(&mut into[..room]))
 }
 
 /// A law: what `read_body` gave on its way, and then what is made of the rest, is what is made of the whole.

@@ -1,13 +1,15 @@
 //! Putting the body of a request into a stage.
-ghost use Rattle.std.specs.Prelude.{◌≡◌, ℕ, ◌+◌, ◌-◌, ◌<◌, ◌≤◌, ◌^◌, List, [], ◌++◌, length};
+ghost use Rattle.std.specs.Prelude.{◌≡◌, ℕ, ◌+◌, ◌-◌, ◌<◌, ◌≤◌, ◌⊎◌, ◌^◌, List, [], ◌++◌, length, IfOk, IfErr, IsErrOf};
+ghost use Rattle.std.specs.Io.KnownBytes.{IsAtEnd};
 ghost use Rattle.reg_names.specs.Cause.{HasCause};
+ghost use Rattle.depot_api.specs.Limits.{file_limit};
 ghost use Rattle.http_wire.specs.BodyAnswers.{state_of};
 ghost use Rattle.http_wire.specs.Bodies.{due, Outcome, Runs, ends_before, Stops};
-ghost use Rattle.http_wire.specs.Filling.{held, TakesBody, IsStopOf, KeepsLimit, CanAnswer, Extends, IfWhole, PutsSome, PutsUpTo, IsOfStage, FillsOn, Fills, Filling, within, is_too_long};
-ghost use Rattle.http_wire.specs.Flow.{stream, OnStream, Counts};
+ghost use Rattle.http_wire.specs.Filling.{TakesBody, IsTakingEnd, KeepsLimit, CanAnswer, Extends, IfWhole, FillsOn, Fills, Filling, within, is_too_long, IsBodyOpen};
+ghost use Rattle.http_wire.specs.Flow.{stream, spent, OnStream, Counts};
+ghost use Rattle.http_wire.specs.InnerPuts.{PutsSome, PutsUpTo, IsInData, IsOfStage, TakesOff};
 
-use crate::feed::Refill;
-use crate::reach::{Reached, reach_data};
+use crate::reach::reach_data;
 use crate::{BodyReader, BodyTaken, Feed, Source, Stage};
 use depot_api::Refused;
 
@@ -28,26 +30,31 @@ pub fn take_body<S: Source, T: Stage>(
     most: u64,
     stage: &mut T,
 ) -> BodyTaken
-    requires { T.staged stage.old + most ≤ 2 ^ 62 }
+    requires { (T.held stage.old).count + most ≤ file_limit }
 
     // Where the source tells its bytes: what the reader moved on over, and where it stands.
     ensures moved { OnStream (stream feed.old (S.left source.old)) (stream feed.new (S.left source.new))
         (λ old new. TakesBody result most (state_of body.old) old (state_of body.new) new
-        (held (T.tells stage.old) (T.staged stage.old) (T.bytes stage.old)) (held (T.tells stage.new) (T.staged stage.new) (T.bytes stage.new))) }
+        (T.held stage.old) (T.held stage.new)) }
     ensures ended { OnStream (stream feed.old (S.left source.old)) (stream feed.new (S.left source.new))
-        (λ old new. IsStopOf result (state_of body.new) new) }
+        (λ old new. IsTakingEnd result (state_of body.new) new) }
 
     // Over every source: when it is too long, and what the reader knows before it reads.
-    ensures too_long { KeepsLimit result most (T.staged stage.new - T.staged stage.old) (due (state_of body.new)) }
+    ensures too_long { KeepsLimit result most ((T.held stage.new).count - (T.held stage.old).count) (due (state_of body.new)) }
     ensures known { CanAnswer (state_of body.old) most result }
 
     // What stays staged, and how many bytes come behind it, also where a device does not tell which.
-    ensures kept { Extends (held (T.tells stage.old) (T.staged stage.old) (T.bytes stage.old))
-        (held (T.tells stage.new) (T.staged stage.new) (T.bytes stage.new)) }
-    ensures whole { IfWhole result (λ n. T.staged stage.new ≡ T.staged stage.old + n) }
-    ensures grows { T.staged stage.old ≤ T.staged stage.new }
-    ensures limit { T.staged stage.new ≤ T.staged stage.old + most }
-    ensures tells { T.tells stage.new ≡ T.tells stage.old }
+    ensures kept { Extends (T.held stage.old) (T.held stage.new) }
+    ensures whole { IfWhole result (λ n. (T.held stage.new).count ≡ (T.held stage.old).count + n) }
+    ensures grows { (T.held stage.old).count ≤ (T.held stage.new).count }
+    ensures limit { (T.held stage.new).count ≤ (T.held stage.old).count + most }
+
+    // The source is not read where what waits says how the body ends, and it has ended where the answer says so.
+    ensures at_hand { ¬ (IsBodyOpen most (state_of body.old) feed.old.pending) → source.new ≡ source.old }
+    ensures at_end { result ≡ BodyTaken.Cut → IsAtEnd (S.left source.new) }
+
+    // That readers come to an end.
+    ensures progress { spent feed.old ≤ spent feed.new }
 
     // Why it gave up.
     ensures source_cause { HasCause (S.faults source.old) (S.faults source.new) (result ≡ BodyTaken.SourceFault) }
@@ -58,88 +65,72 @@ pub fn take_body<S: Source, T: Stage>(
     let mut room = most;
     loop {
         match reach_data(feed, source, body) {
-            Reached::Data(left) if left > room => return BodyTaken::TooLong,
-            Reached::Data(left) => match put_data(feed, source, left, stage) {
-                Put::Bytes(count) => {
+            Ok(0) => return BodyTaken::Whole(most - room),
+            Ok(left) if left > room => return BodyTaken::TooLong,
+            Ok(left) => match put_data(feed, source, left, stage) {
+                Ok(count) => {
                     body.pass(count);
                     room -= count;
                 }
-                Put::Cut => return BodyTaken::Cut,
-                Put::SourceFault => return BodyTaken::SourceFault,
-                Put::Long => return BodyTaken::Long,
-                Put::StageFault => return BodyTaken::StageFault,
-                Put::NoMemory => return BodyTaken::NoMemory,
+                Err(answer) => return answer,
             },
-            Reached::End => return BodyTaken::Whole(most - room),
-            Reached::Cut => return BodyTaken::Cut,
-            Reached::Bad => return BodyTaken::Bad,
-            Reached::SourceFault => return BodyTaken::SourceFault,
-            Reached::Long => return BodyTaken::Long,
+            Err(stop) => return BodyTaken::of(stop),
         }
     }
 }
 
-/// What came of data that was to be staged.
-#[derive(Clone, Copy, Debug, PartialEq, Eq)]
-pub(crate) enum Put {
-    /// So many bytes were.
-    Bytes(u64),
-    /// The input has ended.
-    Cut,
-    SourceFault,
-    Long,
-    StageFault,
-    NoMemory,
-}
-
-// Stages some of the `left` bytes that stand in the stream as they are.
-fn put_data<S: Source, T: Stage>(feed: &mut Feed, source: &mut S, left: u64, stage: &mut T) -> Put
+// Stages some of the `left` bytes that stand in the stream as they are, and answers how many.
+fn put_data<S: Source, T: Stage>(
+    feed: &mut Feed,
+    source: &mut S,
+    left: u64,
+    stage: &mut T,
+) -> Result<u64, BodyTaken>
     requires some { 0 < left }
-    requires room { T.staged stage.old + left ≤ 2 ^ 62 }
-    ensures bytes { OnStream (stream feed.old (S.left source.old)) (stream feed.new (S.left source.new))
-        (λ old new. PutsSome result left old new
-        (held (T.tells stage.old) (T.staged stage.old) (T.bytes stage.old)) (held (T.tells stage.new) (T.staged stage.new) (T.bytes stage.new))) }
-    ensures count { PutsUpTo result left (T.staged stage.old) (T.staged stage.new) }
-    ensures kept { Extends (held (T.tells stage.old) (T.staged stage.old) (T.bytes stage.old))
-        (held (T.tells stage.new) (T.staged stage.new) (T.bytes stage.new)) }
-    ensures tells { T.tells stage.new ≡ T.tells stage.old }
-    ensures source_cause { HasCause (S.faults source.old) (S.faults source.new) (result ≡ Put.SourceFault) }
-    ensures stage_cause { HasCause (T.faults stage.old) (T.faults stage.new) (result ≡ Put.StageFault) }
-    ensures long { result ≡ Put.Long → 2 ^ 50 ≤ feed.new.taken }
+    requires room { (T.held stage.old).count + left ≤ file_limit }
+    ensures bytes { OnStream (stream feed.old (S.left source.old)) (stream feed.new (S.left source.new)) (λ old new. PutsSome result left old new
+        (T.held stage.old) (T.held stage.new)) }
+    ensures count { PutsUpTo result left (T.held stage.old).count (T.held stage.new).count }
+    ensures kept { Extends (T.held stage.old) (T.held stage.new) }
+    ensures inside { IfErr result IsInData }
+    ensures at_hand { ((source.new ≡ source.old) × IfOk result (λ n. TakesOff n feed.old.pending feed.new.pending)) ⊎ (feed.old.pending ≡ []) }
+    ensures at_end { IsErrOf result BodyTaken.Cut → IsAtEnd (S.left source.new) }
+    ensures progress { spent feed.old ≤ spent feed.new }
+    ensures source_cause { HasCause (S.faults source.old) (S.faults source.new) (IsErrOf result BodyTaken.SourceFault) }
+    ensures stage_cause { HasCause (T.faults stage.old) (T.faults stage.new) (IsErrOf result BodyTaken.StageFault) }
+    ensures long { IsErrOf result BodyTaken.Long → 2 ^ 50 ≤ feed.new.taken }
     ensures counts { Counts feed.old (S.given source.old) feed.new (S.given source.new) }
 {
     match feed.wait(source) {
-        Refill::More => put_waiting(feed, left, stage),
-        Refill::Ended => Put::Cut,
-        Refill::SourceFault => Put::SourceFault,
-        Refill::Long => Put::Long,
+        Ok(()) => put_waiting(feed, left, stage),
+        Err(stop) => Err(BodyTaken::of(stop)),
     }
 }
 
 // Stages the bytes that wait, but no more than are left.
-fn put_waiting<T: Stage>(feed: &mut Feed, left: u64, stage: &mut T) -> Put
+fn put_waiting<T: Stage>(feed: &mut Feed, left: u64, stage: &mut T) -> Result<u64, BodyTaken>
     requires some { 0 < left }
     requires waiting { 0 < length feed.old.pending }
-    requires room { T.staged stage.old + left ≤ 2 ^ 62 }
+    requires room { (T.held stage.old).count + left ≤ file_limit }
     ensures bytes { PutsSome result left feed.old.pending feed.new.pending
-        (held (T.tells stage.old) (T.staged stage.old) (T.bytes stage.old)) (held (T.tells stage.new) (T.staged stage.new) (T.bytes stage.new)) }
-    ensures count { PutsUpTo result left (T.staged stage.old) (T.staged stage.new) }
-    ensures kept { Extends (held (T.tells stage.old) (T.staged stage.old) (T.bytes stage.old))
-        (held (T.tells stage.new) (T.staged stage.new) (T.bytes stage.new)) }
-    ensures tells { T.tells stage.new ≡ T.tells stage.old }
-    ensures stage_cause { HasCause (T.faults stage.old) (T.faults stage.new) (result ≡ Put.StageFault) }
+        (T.held stage.old) (T.held stage.new) }
+    ensures count { PutsUpTo result left (T.held stage.old).count (T.held stage.new).count }
+    ensures kept { Extends (T.held stage.old) (T.held stage.new) }
+    ensures of_stage { IfErr result IsOfStage }
+    ensures moved { IfOk result (λ n. TakesOff n feed.old.pending feed.new.pending) }
     ensures taken { feed.new.taken ≡ feed.old.taken }
-    ensures causes { IsOfStage result }
+    ensures progress { spent feed.old ≤ spent feed.new }
+    ensures stage_cause { HasCause (T.faults stage.old) (T.faults stage.new) (IsErrOf result BodyTaken.StageFault) }
 {
     let waiting = feed.pending();
     let count = left.min(waiting.len() as u64) as usize;
     match stage.append(&waiting[..count]) {
         Ok(()) => {
             feed.skip(count);
-            Put::Bytes(count as u64)
+            Ok(count as u64)
         }
-        Err(Refused::Failed) => Put::StageFault,
-        Err(Refused::NoMemory) => Put::NoMemory,
+        Err(Refused::Failed) => Err(BodyTaken::StageFault),
+        Err(Refused::NoMemory) => Err(BodyTaken::NoMemory),
     }
 }
 

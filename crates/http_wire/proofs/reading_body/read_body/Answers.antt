@@ -1,56 +1,50 @@
-use Rattle.std.proofs.Common.{◌∙◌, ◌≤◌, ◌<◌, ap, sym, subst, arith}
-use Rattle.http_wire.specs.declared.body.BodyState.{BodyState}
-use Rattle.http_wire.specs.Bodies.{due, less, Moves}
-use Rattle.http_wire.specs.BodyAnswers.{given, count_of, IsStopOf}
+use Rattle.std.proofs.Common.{ap, sym, subst, arith, Err}
+use Rattle.http_wire.specs.declared.body.BodyStep.{BodyStep}
+use Rattle.http_wire.specs.Bodies.{Moves}
+use Rattle.http_wire.specs.BodyAnswers.{given, IsStepEnd}
 use Rattle.http_wire.specs.Flow.{stream, OnStream}
-use Rattle.http_wire.proofs.MovingLaws.{moved_in, ended_in, moved_over}
+use Rattle.http_wire.proofs.MovingLaws.{moved_none, ended_none, hand_read, hand_given}
 use Rattle.http_wire.proofs.reading_body.read_body.Goals as goal
 
-pub returns-in-Data-clause-moved : goal.returns-in-Data-clause-moved
-returns-in-Data-clause-moved g c =
+pub returns-in-Ok-eq0-clause-at_hand : goal.returns-in-Ok-eq0-clause-at_hand
+returns-in-Ok-eq0-clause-at_hand g c = hand_read c.args.source.now c.reach_data.new.source c.args.body.now.state c.reach_data.new.body.state c.args.feed.now.pending c.reach_data.new.feed.pending c.reach_data.ensures.at_hand
+
+pub returns-in-Err-clause-at_hand : goal.returns-in-Err-clause-at_hand
+returns-in-Err-clause-at_hand g c = hand_read c.args.source.now c.reach_data.new.source c.args.body.now.state c.reach_data.new.body.state c.args.feed.now.pending c.reach_data.new.feed.pending c.reach_data.ensures.at_hand
+
+pub returns-in-Ok-read_data-clause-at_hand : goal.returns-in-Ok-read_data-clause-at_hand
+returns-in-Ok-read_data-clause-at_hand g c =
+    let r = c.reach_data.new in
+    hand_given c.args.source.now r.source c.read_data.new.source c.args.body.now.state r.body.state c.args.feed.now.pending r.feed.pending
+    (grind (arith, c.in-Ok.left-test, c.in-Ok.ensures.left)) c.reach_data.ensures.at_hand c.read_data.ensures.at_hand
+
+pub returns-in-Err-read_data-clause-at_hand : goal.returns-in-Err-read_data-clause-at_hand
+returns-in-Err-read_data-clause-at_hand g c =
+    let r = c.reach_data.new in
+    hand_given c.args.source.now r.source c.read_data.new.source c.args.body.now.state r.body.state c.args.feed.now.pending r.feed.pending
+    (grind (arith, c.in-Ok.left-test, c.in-Ok.ensures.left)) c.reach_data.ensures.at_hand c.read_data.ensures.at_hand
+
+pub returns-in-Err-read_data-clause-moved : goal.returns-in-Err-read_data-clause-moved
+returns-in-Err-read_data-clause-moved g c =
     let S = g.S.Source.left in
+    let first = c.args.body.now.state in
     let now = c.reach_data.new.body.state in
-    let step = c.read_data-step in
-    let old = stream c.args.feed.now (S c.args.source.now) in
-    let new = stream step.new.feed (S step.new.source) in
-    let few : count_of step.result ≤ due now = omega (arith, step.ensures.few, c.in-Data.ensures.left.0) in
-    let moved = moved_in c.args.body.now.state now old (stream c.reach_data.new.feed (S c.reach_data.new.source)) new c.reach_data.ensures.moved
-    step.result step.new.into few step.ensures.bytes in
-    subst (λ (s : BodyState). OnStream old new (λ a b. Moves c.args.body.now.state a (given step.result step.new.into) s b)) (ap (less now) (sym c.count_of.ensures) ∙ sym c.pass.ensures) moved
+    let step = c.read_data in
+    let a = stream c.args.feed.now (S c.args.source.now) in
+    let b = stream c.reach_data.new.feed (S c.reach_data.new.source) in
+    let d = stream step.new.feed (S step.new.source) in
+    subst (λ (s : BodyStep). OnStream a d (λ old new. Moves first old (given s step.new.into) now new)) (sym c.of.ensures)
+    (moved_none first now a b d c.reach_data.ensures.moved c.in-Err-read_data.stop step.new.into step.new.into c.in-Err-read_data.ensures.bytes)
 
-pub returns-in-Data-clause-ended : goal.returns-in-Data-clause-ended
-returns-in-Data-clause-ended g c =
+pub returns-in-Err-read_data-clause-ended : goal.returns-in-Err-read_data-clause-ended
+returns-in-Err-read_data-clause-ended g c =
     let S = g.S.Source.left in
+    let first = c.args.body.now.state in
     let now = c.reach_data.new.body.state in
-    let step = c.read_data-step in
-    let old = stream c.args.feed.now (S c.args.source.now) in
-    let new = stream step.new.feed (S step.new.source) in
-    let some : 0 < due now = omega (arith, c.in-Data.ensures.left.0, c.in-Data.ensures.left.1) in
-    let ended = ended_in c.args.body.now.state now old (stream c.reach_data.new.feed (S c.reach_data.new.source)) new c.reach_data.ensures.moved
-    step.result step.new.into some step.ensures.bytes in
-    subst (λ (s : BodyState). OnStream old new (λ a b. IsStopOf step.result s b)) (ap (less now) (sym c.count_of.ensures) ∙ sym c.pass.ensures) ended
-
-pub returns-in-End-clause-moved : goal.returns-in-End-clause-moved
-returns-in-End-clause-moved g c =
-    moved_over c.args.body.now.state c.reach_data.new.body.state (stream c.args.feed.now (g.S.Source.left c.args.source.now)) (stream c.reach_data.new.feed (g.S.Source.left c.reach_data.new.source))
-    c.reach_data.ensures.moved
-
-pub returns-in-Cut-clause-moved : goal.returns-in-Cut-clause-moved
-returns-in-Cut-clause-moved g c =
-    moved_over c.args.body.now.state c.reach_data.new.body.state (stream c.args.feed.now (g.S.Source.left c.args.source.now)) (stream c.reach_data.new.feed (g.S.Source.left c.reach_data.new.source))
-    c.reach_data.ensures.moved
-
-pub returns-in-Bad-clause-moved : goal.returns-in-Bad-clause-moved
-returns-in-Bad-clause-moved g c =
-    moved_over c.args.body.now.state c.reach_data.new.body.state (stream c.args.feed.now (g.S.Source.left c.args.source.now)) (stream c.reach_data.new.feed (g.S.Source.left c.reach_data.new.source))
-    c.reach_data.ensures.moved
-
-pub returns-in-SourceFault-clause-moved : goal.returns-in-SourceFault-clause-moved
-returns-in-SourceFault-clause-moved g c =
-    moved_over c.args.body.now.state c.reach_data.new.body.state (stream c.args.feed.now (g.S.Source.left c.args.source.now)) (stream c.reach_data.new.feed (g.S.Source.left c.reach_data.new.source))
-    c.reach_data.ensures.moved
-
-pub returns-in-Long-clause-moved : goal.returns-in-Long-clause-moved
-returns-in-Long-clause-moved g c =
-    moved_over c.args.body.now.state c.reach_data.new.body.state (stream c.args.feed.now (g.S.Source.left c.args.source.now)) (stream c.reach_data.new.feed (g.S.Source.left c.reach_data.new.source))
-    c.reach_data.ensures.moved
+    let step = c.read_data in
+    let a = stream c.args.feed.now (S c.args.source.now) in
+    let b = stream c.reach_data.new.feed (S c.reach_data.new.source) in
+    let d = stream step.new.feed (S step.new.source) in
+    subst (λ (s : BodyStep). OnStream a d (λ old new. IsStepEnd s now new)) (sym c.of.ensures)
+    (ended_none first now a b d c.reach_data.ensures.moved c.in-Err-read_data.stop step.new.into (grind (arith, c.in-Ok.left-test, c.in-Ok.ensures.left))
+    (λ same. c.in-Err-read_data.ensures.sound (ap Err same)) c.in-Err-read_data.ensures.bytes)

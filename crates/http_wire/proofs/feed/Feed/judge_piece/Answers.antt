@@ -1,6 +1,6 @@
 use Rattle.std.proofs.Common.{◌∙◌, ◌+◌, ap, subst, List, ℕ, min, slice_range, arith}
 use Rattle.http_wire.specs.Flow.{Flow}
-use Rattle.http_wire.specs.BodyAnswers.{JudgesPiece}
+use Rattle.http_wire.specs.InnerPieces.{JudgesPiece}
 use Rattle.http_wire.proofs.TakingLaws.{front_judged, front_fits}
 use Rattle.http_wire.proofs.feed.Feed.judge_piece.Goals as goal
 
