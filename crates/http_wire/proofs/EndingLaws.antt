@@ -1,5 +1,5 @@
 -- Every stream has its messages: a reader makes something of any bytes, and any bytes have a verdict.
-use Rattle.std.proofs.Common.{◌≡◌, ℕ, if◌then◌else◌, ◌==◌, ◌<◌, ◌≤◌, Bool, true, false, List, [], ◌∷◌, ◌++◌, length, suc, zero, take, drop, refl, sym, ap, subst, ◌∙◌, arith, append-nil, length-append, length-drop, take-append-drop, inl, inr, ◌⊎◌}
+use Rattle.std.proofs.Common.{◌≡◌, ℕ, ◌-◌, if◌then◌else◌, ◌==◌, ◌<◌, ◌≤◌, Bool, true, false, List, [], ◌∷◌, ◌++◌, length, suc, zero, take, drop, refl, sym, ap, subst, ◌∙◌, arith, append-nil, length-append, length-drop, take-append-drop, inl, inr, ◌⊎◌, Option, Some, None}
 use Rattle.std.proofs.lemmas.Bool.{cases_lt, cases_Bool}
 use Rattle.httparse.specs.Grammar.{IsChunkLine, print_chunk_line, chunk_size, RequestHead, print_request}
 use Rattle.httparse.proofs.PieceLemmas.{NotYet_elim, Never_elim}
@@ -9,8 +9,11 @@ use Rattle.http_wire.specs.declared.body.Piece.{Piece}
 use Rattle.http_wire.specs.declared.body.Piece.TheVariants as pieces
 use Rattle.http_wire.specs.Heads.{Verdict, Holds, begins, is_nothing, is_cut, is_too_large}
 use Rattle.http_wire.specs.Heads as heads
-use Rattle.http_wire.specs.Messages.{Message, body_start, is_last, ReadsMessage, Ending, closed_before, is_complete, is_broken_off, is_no_message, has_large_head, Messages}
-use Rattle.http_wire.specs.Bodies.{Reads, HasPiece, IsBadPiece, IsCutPiece, IsGap, print_gap, IsSection, print_trailer, after_size, Passes, IsBadAt, IsCutAt, Outcome, ends_before, is_cut_short, is_malformed, Goes, Stops, Runs, stops, goes}
+use Rattle.http_wire.specs.Filling.{Filling, within, is_too_long, Fills, passes, stops_within, goes_within}
+use Rattle.http_wire.specs.Messages.{Message, body_start, is_last, Limits, behind_first, ReadsBody, ReadsMessage, Ending, closed_before, is_complete, is_broken_off, is_no_message, has_large_head, has_long_body, Messages}
+use Rattle.http_wire.proofs.FillingLaws.{fills_runs}
+use Rattle.http_wire.proofs.MessageLaws.{outcome_of}
+use Rattle.http_wire.specs.Bodies.{Reads, HasPiece, IsBadPiece, IsCutPiece, IsGap, print_gap, IsSection, print_trailer, after_size, Passes, IsBadAt, IsCutAt, Outcome, ends_before, is_cut_short, is_malformed, Goes, Stops, Runs, stops, goes, due}
 use Rattle.http_wire.proofs.HeadLaws.{head_is_some}
 use Rattle.http_wire.proofs.FrontLaws.{has_verdict}
 use Rattle.http_wire.proofs.PieceLaws.{HasPiece-append}
@@ -142,42 +145,74 @@ runs_less state bytes decoded outcome rest is (stops _ _ _ _ x) =
 runs_less state bytes decoded outcome rest is (goes _ _ _ _ next first behind more x parts run) =
     omega (arith, goes_less state bytes next first behind x, runs_less next behind more outcome rest is run)
 
+-- ---- a body of which so many bytes may come
+
+abbrev Reads_body : Option ℕ → BodyState → List ℕ → Type 0
+Reads_body limit state bytes = (decoded : List ℕ) × (filling : Filling) × ReadsBody limit state bytes decoded filling
+
+filling_of : (most : ℕ) (state : BodyState) (bytes decoded : List ℕ) (outcome : Outcome) → Runs state bytes decoded outcome → (given : List ℕ) × (filling : Filling) × Fills most state bytes given filling
+filling_of most state bytes decoded outcome (stops _ _ _ _ x) = elim (cases_lt most (due state)) [
+  | inl over ↦ ([], is_too_long, passes most state bytes [] is_too_long over refl refl)
+  | inr few ↦ (decoded, within outcome, stops_within most state bytes decoded (within outcome) outcome few x refl)
+]
+filling_of most state bytes decoded outcome (goes _ _ _ _ next first rest more x is run) = elim (cases_lt most (due state)) [
+  | inl over ↦ ([], is_too_long, passes most state bytes [] is_too_long over refl refl)
+  | inr few ↦
+      let (given, filling, fills) = filling_of (most - length first) next rest more outcome run in
+      (first ++ given, filling, goes_within most state bytes (first ++ given) filling next first rest given few x refl fills)
+]
+
+body_reads : (limit : Option ℕ) (state : BodyState) (bytes : List ℕ) → Reads_body limit state bytes
+body_reads (Some most) state bytes =
+    let (decoded, outcome, run) = body_ends state bytes in
+    filling_of most state bytes decoded outcome run
+body_reads None state bytes =
+    let (decoded, outcome, run) = body_ends state bytes in
+    (decoded, within outcome, (outcome, run, refl))
+
+reads_less : (limit : Option ℕ) (state : BodyState) (bytes decoded rest : List ℕ) → ReadsBody limit state bytes decoded (within (ends_before rest)) → length rest ≤ length bytes
+reads_less (Some most) state bytes decoded rest x =
+    runs_less state bytes decoded (ends_before rest) rest refl (fills_runs most state bytes decoded (within (ends_before rest)) (ends_before rest) refl x)
+reads_less None state bytes decoded rest (outcome, run, is) = runs_less state bytes decoded outcome rest (outcome_of rest outcome is) run
+
 -- ---- messages
 
-abbrev HasMessages : List ℕ → Type 0
-HasMessages bytes = (messages : List Message) × (ending : Ending) × Messages bytes messages ending
+abbrev HasMessages : Limits → List ℕ → Type 0
+HasMessages limits bytes = (messages : List Message) × (ending : Ending) × Messages limits bytes messages ending
 
-message_then : (bytes : List ℕ) (m : Message) (rest : List ℕ) → ReadsMessage bytes m rest → HasMessages rest → HasMessages bytes
-message_then bytes m rest reads (messages, ending, more) = elim (cases_Bool (is_last m)) [
+message_then : (limits : Limits) (bytes : List ℕ) (m : Message) (rest : List ℕ) → ReadsMessage (limits 0 m.head) bytes m rest → HasMessages (behind_first limits) rest → HasMessages limits bytes
+message_then limits bytes m rest reads (messages, ending, more) = elim (cases_Bool (is_last m)) [
   | inl last ↦ (m ∷ [], closed_before rest, (rest, reads, inl (last, refl, refl)))
   | inr goes_on ↦ (m ∷ messages, ending, (rest, reads, inr (goes_on, more)))
 ]
 
 -- each stream of so few bytes has them
 abbrev AllHaveMessages : ℕ → Type 0
-AllHaveMessages n = (bytes : List ℕ) → length bytes < n → HasMessages bytes
+AllHaveMessages n = (limits : Limits) (bytes : List ℕ) → length bytes < n → HasMessages limits bytes
 
-body_then : (n : ℕ) (bytes : List ℕ) (h : RequestHead) (behind : List ℕ) → AllHaveMessages n → length bytes < suc n → Holds bytes (begins h behind) → Ends (body_start h) behind → HasMessages bytes
-body_then n bytes h behind others few x (decoded, ends_before rest, run) =
+body_then : (n : ℕ) (limits : Limits) (bytes : List ℕ) (h : RequestHead) (behind : List ℕ) → AllHaveMessages n → length bytes < suc n → Holds bytes (begins h behind)
+    → Reads_body (limits 0 h) (body_start h) behind → HasMessages limits bytes
+body_then n limits bytes h behind others few x (decoded, within (ends_before rest), run) =
     let head : 0 < length (print_request h) = head_is_some bytes h behind x.0.0 in
-    let less : length rest ≤ length behind = runs_less (body_start h) behind decoded (ends_before rest) rest refl run in
-    message_then bytes (record { head = h; body = decoded }) rest (behind, x, run)
-    (others rest (omega (arith, few, head, less, ap length x.0.0.1, length-append (print_request h) behind)))
-body_then n bytes h behind others few x (decoded, is_cut_short, run) = ([], is_broken_off, inr (h, decoded, (behind, x, run)))
-body_then n bytes h behind others few x (decoded, is_malformed, run) = ([], is_no_message, inr (h, decoded, (behind, x, run)))
+    let less : length rest ≤ length behind = reads_less (limits 0 h) (body_start h) behind decoded rest run in
+    message_then limits bytes (record { head = h; body = decoded }) rest (behind, x, run)
+    (others (behind_first limits) rest (omega (arith, few, head, less, ap length x.0.0.1, length-append (print_request h) behind)))
+body_then n limits bytes h behind others few x (decoded, within is_cut_short, run) = ([], is_broken_off, inr (h, decoded, (behind, x, run)))
+body_then n limits bytes h behind others few x (decoded, within is_malformed, run) = ([], is_no_message, inr (h, decoded, (behind, x, run)))
+body_then n limits bytes h behind others few x (decoded, is_too_long, run) = ([], has_long_body, (h, decoded, (behind, x, run)))
 
-verdict_then : (n : ℕ) (bytes : List ℕ) (v : Verdict) → AllHaveMessages n → length bytes < suc n → Holds bytes v → HasMessages bytes
-verdict_then n bytes (begins h behind) others few x = body_then n bytes h behind others few x (body_ends (body_start h) behind)
-verdict_then n bytes is_nothing others few x = ([], is_complete, x)
-verdict_then n bytes is_cut others few x = ([], is_broken_off, inl x)
-verdict_then n bytes heads.is_malformed others few x = ([], is_no_message, inl x)
-verdict_then n bytes is_too_large others few x = ([], has_large_head, x)
+verdict_then : (n : ℕ) (limits : Limits) (bytes : List ℕ) (v : Verdict) → AllHaveMessages n → length bytes < suc n → Holds bytes v → HasMessages limits bytes
+verdict_then n limits bytes (begins h behind) others few x = body_then n limits bytes h behind others few x (body_reads (limits 0 h) (body_start h) behind)
+verdict_then n limits bytes is_nothing others few x = ([], is_complete, x)
+verdict_then n limits bytes is_cut others few x = ([], is_broken_off, inl x)
+verdict_then n limits bytes heads.is_malformed others few x = ([], is_no_message, inl x)
+verdict_then n limits bytes is_too_large others few x = ([], has_large_head, x)
 
 messages_within : (n : ℕ) → AllHaveMessages n
-messages_within zero bytes few = absurd (omega arith)
-messages_within (suc n) bytes few =
+messages_within zero limits bytes few = absurd (omega arith)
+messages_within (suc n) limits bytes few =
     let (v, x) = has_verdict bytes in
-    verdict_then n bytes v (messages_within n) few x
+    verdict_then n limits bytes v (messages_within n) few x
 
-pub has_messages : (bytes : List ℕ) → HasMessages bytes
-has_messages bytes = messages_within (suc (length bytes)) bytes (omega arith)
+pub has_messages : (limits : Limits) (bytes : List ℕ) → HasMessages limits bytes
+has_messages limits bytes = messages_within (suc (length bytes)) limits bytes (omega arith)

@@ -17,3 +17,4 @@ pub mod FrontLaws
 pub mod EndingLaws
 pub mod FillingLaws
 pub mod StagingLaws
+pub mod JoiningLaws

@@ -8,6 +8,7 @@ pub mod Bodies
 pub mod BodyAnswers
 pub mod Messages
 pub mod Filling
+pub mod Reading
 pub mod InnerHeads
 pub mod InnerPieces
 pub mod InnerReaching

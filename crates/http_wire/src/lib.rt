@@ -25,7 +25,10 @@ pub use depot_api::{Bytes, NoMemory, Source, SourceFault, Stage, Text};
 pub use feed::Feed;
 pub use framed::framing;
 pub use head::{Field, Framing, Head, Heading, MALFORMED, TOO_LARGE};
-pub use messages::{messages_are_one, messages_go_on, spellings_are_apart, streams_have_messages};
+pub use messages::{
+    calls_end_messages, calls_read_messages, messages_add_up, messages_are_one, messages_go_on,
+    spellings_are_apart, streams_have_messages,
+};
 pub use questions::{content_type, ends_connection, expects_continue, range_start};
 pub use reading::{heads_are_exact, read_head};
 pub use reading_body::{bodies_are_exact, read_body, reads_add_up};

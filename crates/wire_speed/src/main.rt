@@ -1,16 +1,16 @@
 //! Reads all requests of standard input, which a benchmark measures.
 //! It is given `read` or `stage`, and prints how many requests there are and how many bytes their bodies have: `read` decodes
-//! each body into a room, `stage` into a stage in memory. To compare, `copy` counts all bytes, and `input` only gets them.
-//! `requests` promises that what it counts are the messages of the stream, up to one that ends the connection.
+//! each body into a buffer, `stage` into a stage in memory. To compare, `copy` counts all bytes, and `input` only gets them.
+//! Where `requests` answers a count, that is of the messages of the stream, up to one that ends the connection.
 //! Whoever serves a registry reads requests so.
 #![tactic(auto)]
 
 ghost use Rattle.std.specs.Prelude.{◌≡◌, ◌+◌, ◌≤◌, IfSome};
 ghost use Rattle.http_wire.specs.Flow.{stream, OnStream};
-ghost use Rattle.wire_speed.specs.Counting.{IsCounted, HasLength, IsNext};
+ghost use Rattle.wire_speed.specs.Counting.{IsCounted, HasLength, IsNextRequest};
 
 use depot_api::memory::{MemSource, MemStage};
-use depot_api::{Bytes, Source};
+use depot_api::{Bytes, Path, Source};
 use http_wire::{
     BodyReader, BodyStep, BodyTaken, Feed, Framing, Heading, ends_connection, framing, read_body,
     read_head, take_body,
@@ -21,7 +21,7 @@ use std::io::Read;
 use std::process::ExitCode;
 
 // The bytes that are read at once.
-const ROOM: usize = 16_384;
+const BUFFER: usize = 16_384;
 
 // The most bytes of one body that is staged.
 const MOST: u64 = 1 << 62;
@@ -54,7 +54,7 @@ impl Totals {
 /// What becomes of a body.
 #[derive(Clone, Copy, Debug)]
 enum Way {
-    /// It is read into a room.
+    /// It is read into a buffer.
     Read,
     /// It is put into a stage.
     Stage,
@@ -76,19 +76,19 @@ fn main(rt: HostRuntime) -> ExitCode {
 fn counted(rt: &HostRuntime) -> Option<Totals> {
     let way = env::args(rt).ok()?.nth(1)?;
     let mut source = input(rt)?;
-    let mut room = vec![in rt.alloc(); 0u8; ROOM].ok()?;
+    let mut buffer = vec![in rt.alloc(); 0u8; BUFFER].ok()?;
     match way.as_str() {
         "input" => Some(Totals::NONE),
-        "copy" => copied(&mut source, &mut room),
-        "read" => read_all(rt.alloc(), &mut source, Way::Read, &mut room),
-        "stage" => read_all(rt.alloc(), &mut source, Way::Stage, &mut room),
+        "copy" => copied(&mut source, &mut buffer),
+        "read" => read_all(rt.alloc(), &mut source, Way::Read, &mut buffer),
+        "stage" => read_all(rt.alloc(), &mut source, Way::Stage, &mut buffer),
         _ => None,
     }
 }
 
-fn read_all(alloc: Global, source: &mut MemSource, way: Way, room: &mut [u8]) -> Option<Totals> {
+fn read_all(alloc: Global, source: &mut MemSource, way: Way, buffer: &mut [u8]) -> Option<Totals> {
     let mut feed = Feed::new(alloc).ok()?;
-    requests(alloc, &mut feed, source, way, room)
+    requests(alloc, &mut feed, source, way, buffer)
 }
 
 // Standard input, read to its end.
@@ -100,12 +100,12 @@ fn input(rt: &HostRuntime) -> Option<MemSource> {
 }
 
 // How many bytes a source gives, of no requests.
-fn copied<S: Source>(source: &mut S, room: &mut [u8]) -> Option<Totals>
+fn copied<S: Source>(source: &mut S, buffer: &mut [u8]) -> Option<Totals>
     ensures later { S.faults source.old ≤ S.faults source.new }
 {
     let mut bytes = 0_u64;
     for _ in 0..u64::MAX {
-        match source.read(room) {
+        match source.read(buffer) {
             Ok(0) => return Some(Totals { requests: 0, bytes }),
             Ok(count) => bytes = bytes.saturating_add(count as u64),
             Err(_) => return None,
@@ -120,13 +120,14 @@ fn requests<S: Source>(
     feed: &mut Feed,
     source: &mut S,
     way: Way,
-    room: &mut [u8],
+    buffer: &mut [u8],
 ) -> Option<Totals>
-    ensures messages { IfSome result (λ totals. OnStream (stream feed.old (S.left source.old)) (stream feed.new (S.left source.new)) (λ old new. IsCounted totals old)) }
+    ensures messages { IfSome result (λ totals. OnStream (stream feed.old (S.left source.old)) (stream feed.new (S.left source.new))
+        (λ old new. IsCounted way totals old)) }
 {
     let mut totals = Totals::NONE;
     for _ in 0..u64::MAX {
-        match read_next(alloc, feed, source, way, room)? {
+        match read_next(alloc, feed, source, way, buffer)? {
             Next::Request { length, is_last } => {
                 totals = totals.with(length)?;
                 if is_last {
@@ -152,13 +153,14 @@ fn read_next<S: Source>(
     feed: &mut Feed,
     source: &mut S,
     way: Way,
-    room: &mut [u8],
+    buffer: &mut [u8],
 ) -> Option<Next>
-    ensures next { IfSome result (λ next. OnStream (stream feed.old (S.left source.old)) (stream feed.new (S.left source.new)) (IsNext next)) }
+    ensures next { IfSome result (λ next. OnStream (stream feed.old (S.left source.old)) (stream feed.new (S.left source.new))
+        (IsNextRequest way next)) }
 {
     match read_head(alloc, feed, source) {
         Heading::Head(head) => {
-            let length = body_length(alloc, feed, source, framing(&head), way, room)?;
+            let length = body_length(alloc, feed, source, framing(&head), way, buffer)?;
             let is_last = ends_connection(&head);
             Some(Next::Request { length, is_last })
         }
@@ -173,12 +175,13 @@ fn body_length<S: Source>(
     source: &mut S,
     framing: Framing,
     way: Way,
-    room: &mut [u8],
+    buffer: &mut [u8],
 ) -> Option<u64>
-    ensures body { IfSome result (λ n. OnStream (stream feed.old (S.left source.old)) (stream feed.new (S.left source.new)) (HasLength framing n)) }
+    ensures body { IfSome result (λ n. OnStream (stream feed.old (S.left source.old)) (stream feed.new (S.left source.new))
+        (HasLength way framing n)) }
 {
     match way {
-        Way::Read => body_read(feed, source, framing, room),
+        Way::Read => body_read(feed, source, framing, buffer),
         Way::Stage => body_staged(alloc, feed, source, framing),
     }
 }
@@ -188,14 +191,15 @@ fn body_read<S: Source>(
     feed: &mut Feed,
     source: &mut S,
     framing: Framing,
-    room: &mut [u8],
+    buffer: &mut [u8],
 ) -> Option<u64>
-    ensures body { IfSome result (λ n. OnStream (stream feed.old (S.left source.old)) (stream feed.new (S.left source.new)) (HasLength framing n)) }
+    ensures body { IfSome result (λ n. OnStream (stream feed.old (S.left source.old)) (stream feed.new (S.left source.new))
+        (HasLength Way.Read framing n)) }
 {
     let mut body = BodyReader::new(framing);
     let mut bytes = 0_u64;
     for _ in 0..u64::MAX {
-        match read_body(feed, source, &mut body, room) {
+        match read_body(feed, source, &mut body, buffer) {
             BodyStep::Bytes(count) => bytes = bytes.checked_add(count as u64)?,
             BodyStep::End => return Some(bytes),
             _ => return None,
@@ -211,9 +215,11 @@ fn body_staged<S: Source>(
     source: &mut S,
     framing: Framing,
 ) -> Option<u64>
-    ensures body { IfSome result (λ n. OnStream (stream feed.old (S.left source.old)) (stream feed.new (S.left source.new)) (HasLength framing n)) }
+    ensures body { IfSome result (λ n. OnStream (stream feed.old (S.left source.old)) (stream feed.new (S.left source.new))
+        (HasLength Way.Stage framing n)) }
 {
-    let mut stage = MemStage::new(alloc, Vec::new(alloc));
+    let path = Path::read(alloc, "stage").ok()??;
+    let mut stage = MemStage::new(alloc, path, Vec::new(alloc));
     match take_body(
         feed,
         source,
