@@ -119,6 +119,11 @@ on_then_both (Some x) None c p q t all = absurd p
 on_then_both (Some x) (Some y) None p q t all = q
 on_then_both (Some x) (Some y) (Some z) p q t all = all x y z p q t
 
+pub on_both : {P Q R : List ℕ → List ℕ → Type 0} (a b : Option (List ℕ)) → OnStream a b P → OnStream a b Q → ((x y : List ℕ) → P x y → Q x y → R x y) → OnStream a b R
+on_both None b p q both = tt
+on_both (Some x) None p q both = absurd p
+on_both (Some x) (Some y) p q both = both x y p q
+
 pub on_same : {P Q : List ℕ → List ℕ → Type 0} (a b : Option (List ℕ)) → OnStream a b P → ((x y : List ℕ) → P x y → Q x y) → OnStream a b Q
 on_same None b p with_it = tt
 on_same (Some x) None p with_it = absurd p

@@ -1,5 +1,5 @@
 -- Messages that are counted one by one.
-use Rattle.std.proofs.Common.{◌≡◌, ℕ, ◌+◌, ◌≤◌, true, false, Bool, List, [], ◌∷◌, ◌++◌, length, take, refl, sym, ap, subst, ◌∙◌, arith, append-nil, length-append, inl, Option, Some, None}
+use Rattle.std.proofs.Common.{◌≡◌, ℕ, ◌+◌, ◌-◌, ◌^◌, ◌≤◌, true, false, Bool, List, [], ◌∷◌, ◌++◌, length, take, refl, sym, ap, subst, ◌∙◌, arith, append-nil, length-append, inl, Option, Some, None}
 use Rattle.std.proofs.lemmas.List.{length-take-le}
 use Rattle.std.proofs.lemmas.List.Sums.{sum_by-append}
 use Rattle.http_wire.specs.declared.head.Framing.{Framing}
@@ -7,18 +7,20 @@ use Rattle.http_wire.specs.declared.head.Head.{Head}
 use Rattle.http_wire.specs.declared.head.Heading.TheVariants as headings
 use Rattle.http_wire.specs.declared.body.BodyState.{BodyState}
 use Rattle.http_wire.specs.declared.body.BodyStep.TheVariants as steps
+use Rattle.depot_api.specs.Stages.{Staged}
+use Rattle.http_wire.specs.declared.body.BodyTaken.TheVariants as takings
 use Rattle.http_wire.specs.Answers.{TellsHead}
-use Rattle.http_wire.specs.Bodies.{ends_before, Moves}
+use Rattle.http_wire.specs.Bodies.{ends_before, due, Moves}
 use Rattle.http_wire.specs.BodyAnswers.{first_state, IsStepEnd}
 use Rattle.http_wire.specs.Fields.{fields_of}
-use Rattle.http_wire.specs.Filling.{within}
+use Rattle.http_wire.specs.Filling.{within, TakesBody, IsTakingEnd, KeepsLimit}
 use Rattle.http_wire.specs.Flow.{OnStream}
 use Rattle.http_wire.specs.Framing.{framing_by}
-use Rattle.http_wire.specs.Messages.{Message, closed_before, is_complete, is_last, ReadsBody, ReadsMessage}
+use Rattle.http_wire.specs.Messages.{Message, closed_before, is_complete, Messages, ReadsBody}
 use Rattle.http_wire.specs.Questions.{ends_connection}
 use Rattle.http_wire.specs.Reading.{Decodes, decodes_none, decodes_more, ReadsMessages}
-use Rattle.http_wire.proofs.JoiningLaws.{decoded_body, head_message, one_message_more, messages_then}
-use Rattle.http_wire.proofs.StreamLaws.{on_then, on_then_both}
+use Rattle.http_wire.proofs.JoiningLaws.{decoded_body, staged_body, head_message, one_message_more, messages_then}
+use Rattle.http_wire.proofs.StreamLaws.{on_then, on_then_both, on_both}
 use Rattle.wire_speed.specs.declared.Totals.{Totals}
 use Rattle.wire_speed.specs.declared.Next.TheVariants as nexts
 use Rattle.wire_speed.specs.declared.Way.{Way}
@@ -61,13 +63,10 @@ module _ (way : Way) (so_far : Totals) (a b c : Option (List ℕ)) (counted : On
   counted_end next = on_then a b c counted next (λ x y z s t. (
     s.0,
     is_complete,
-    subst (λ (l : List Message). IsComplete x l) (append-nil s.0) (messages_then (limits_of way) x s.0 y [] is_complete s.1 t),
+    subst (λ (l : List Message). Messages (limits_of way) x l is_complete) (append-nil s.0) (messages_then (limits_of way) x s.0 y [] is_complete s.1 t),
     s.2,
     s.3,
   ))
-    where
-      abbrev IsComplete : List ℕ → List Message → Type 0
-      IsComplete bytes messages = Messages (limits_of way) bytes messages is_complete
 
 -- ---- one message
 
@@ -102,3 +101,10 @@ module _ (first now next : BodyState) (count : ℕ) (a b c : Option (List ℕ)) 
   read_end framing is more ended = on_then_both a b c so_far more ended (λ x y z s t e.
       let decodes = decodes_more first x s.0 next z now y s.0 [] s.1 t (sym (append-nil s.0)) in
       (s.0, subst (λ (f : BodyState). ReadsBody None f x s.0 (within (ends_before z))) is (decoded_body first x s.0 next z decodes e), s.2))
+
+pub staged_length : (framing : Framing) (first last : BodyState) (n : ℕ) (before now : Staged) (a b : Option (List ℕ)) → first ≡ first_state framing
+    → KeepsLimit (takings.Whole n) (2 ^ 62) (now.count - before.count) (due last) → OnStream a b (λ old new. TakesBody (takings.Whole n) (2 ^ 62) first old last new before now)
+    → OnStream a b (λ old new. IsTakingEnd (takings.Whole n) last new) → OnStream a b (HasLength ways.Stage framing n)
+staged_length framing first last n before now a b is keeps took ended = on_both a b took ended (λ x y t stop.
+    let (body, reads, gains, long) = staged_body first x last y (2 ^ 62) n before now t stop keeps in
+    (body, subst (λ (f : BodyState). ReadsBody (Some (2 ^ 62)) f x body (within (ends_before y))) is reads, long))

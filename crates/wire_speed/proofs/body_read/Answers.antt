@@ -1,7 +1,10 @@
 use Rattle.std.proofs.Common.{◌≡◌, ◌+◌, ℕ, sym, subst, arith}
 use Rattle.http_wire.specs.Flow.{stream, OnStream}
-use Rattle.wire_speed.proofs.CountLaws.{Read, read_more, read_end}
+use Rattle.wire_speed.proofs.CountLaws.{Read, read_none, read_more, read_end}
 use Rattle.wire_speed.proofs.body_read.Goals as goal
+
+pub loop-init : goal.loop-init
+loop-init g c = read_none c.new-body.result.state (stream c.args.feed.now (g.S.Source.left c.args.source.now))
 
 pub loop-preserved : goal.loop-preserved
 loop-preserved g c =
