@@ -271,18 +271,18 @@ module _ {S : Type 0} (old mid new : S) (first now : BodyState) (x y : List ℕ)
   pub hand_piece : (piece : Piece) (next : BodyState) (z : List ℕ) → now ≡ states.Before piece → ((new ≡ mid) × TakesPiece (Ok next) piece y z) ⊎ IsCutAt piece y → AtHand old new first x next z
   hand_piece piece next z is took = elim waits [
     | inl w ↦ elim took [
-        | inl t ↦ inl (t.0 ∙ w.0, skip_piece first now next piece x y z is w.1 t.1)
-        | inr cut ↦ inr (piece, y, subst (λ (s : BodyState). Skips first x s y) is w.1, cut)
-      ]
+      | inl t ↦ inl (t.0 ∙ w.0, skip_piece first now next piece x y z is w.1 t.1)
+      | inr cut ↦ inr (piece, y, subst (λ (s : BodyState). Skips first x s y) is w.1, cut)
+    ]
     | inr w ↦ inr w
   ]
 
   pub hand_same : (piece : Piece) (stop : Stop) (z : List ℕ) → now ≡ states.Before piece → ((new ≡ mid) × TakesPiece (Err stop) piece y z) ⊎ IsCutAt piece y → AtHand old new first x now z
   hand_same piece stop z is took = elim waits [
     | inl w ↦ elim took [
-        | inl t ↦ inl (t.0 ∙ w.0, subst (Skips first x now) (sym (kept stop t.1)) w.1)
-        | inr cut ↦ inr (piece, y, subst (λ (s : BodyState). Skips first x s y) is w.1, cut)
-      ]
+      | inl t ↦ inl (t.0 ∙ w.0, subst (Skips first x now) (sym (kept stop t.1)) w.1)
+      | inr cut ↦ inr (piece, y, subst (λ (s : BodyState). Skips first x s y) is w.1, cut)
+    ]
     | inr w ↦ inr w
   ]
     where

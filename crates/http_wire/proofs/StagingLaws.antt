@@ -283,9 +283,9 @@ module _ {S : Type 0} (old mid new : S) (most room : ℕ) (first now next : Body
   pub body_hand_over : AtHand mid new now y next z → BodyAtHand old new most room first x next z
   body_hand_over moved = elim waits [
     | inl w ↦ elim moved [
-        | inl m ↦ inl (m.0 ∙ w.0, w.1, takes_over most first x w.1 now y next z w.2 m.1, w.3)
-        | inr cut ↦ inr (open_at most room first x w.1 (states.Before cut.0) cut.1 (takes_over most first x w.1 now y (states.Before cut.0) cut.1 w.2 cut.2) w.3 (omega arith) (refl, inr (cut.3, refl)))
-      ]
+      | inl m ↦ inl (m.0 ∙ w.0, w.1, takes_over most first x w.1 now y next z w.2 m.1, w.3)
+      | inr cut ↦ inr (open_at most room first x w.1 (states.Before cut.0) cut.1 (takes_over most first x w.1 now y (states.Before cut.0) cut.1 w.2 cut.2) w.3 (omega arith) (refl, inr (cut.3, refl)))
+    ]
     | inr w ↦ inr w
   ]
 
@@ -293,23 +293,23 @@ module _ {S : Type 0} (old mid new : S) (most room : ℕ) (first now : BodyState
   pub body_hand_put : (n : ℕ) → n ≤ due now → ((new ≡ mid) × TakesOff n y z) ⊎ (y ≡ []) → BodyAtHand old new most (room - n) first x (less now n) z
   body_hand_put n few gave = elim waits [
     | inl w ↦ elim gave [
-        | inl g ↦ inl (
-            g.0 ∙ w.0,
-            w.1 ++ g.1.0,
-            takes_data most first x (w.1 ++ g.1.0) (less now n) z now y w.1 g.1.0 w.2 (omega (arith, w.3, fits)) (omega (arith, few, g.1.2)) g.1.1 (ap (less now) (sym g.1.2)) refl,
-            omega (arith, length-append w.1 g.1.0, w.3, g.1.2, few, fits),
-          )
-        | inr none ↦ inr (open_at most room first x w.1 now y w.2 w.3 fits (cut_in now y some none))
-      ]
+      | inl g ↦ inl (
+        g.0 ∙ w.0,
+        w.1 ++ g.1.0,
+        takes_data most first x (w.1 ++ g.1.0) (less now n) z now y w.1 g.1.0 w.2 (omega (arith, w.3, fits)) (omega (arith, few, g.1.2)) g.1.1 (ap (less now) (sym g.1.2)) refl,
+        omega (arith, length-append w.1 g.1.0, w.3, g.1.2, few, fits),
+      )
+      | inr none ↦ inr (open_at most room first x w.1 now y w.2 w.3 fits (cut_in now y some none))
+    ]
     | inr w ↦ inr w
   ]
 
   pub body_hand_end : {P : Type 0} → ((new ≡ mid) × P) ⊎ (y ≡ []) → ¬ (IsBodyOpen most first x) → new ≡ old
   body_hand_end gave decided = elim waits [
     | inl w ↦ elim gave [
-        | inl g ↦ g.0 ∙ w.0
-        | inr none ↦ absurd (decided (open_at most room first x w.1 now y w.2 w.3 fits (cut_in now y some none)))
-      ]
+      | inl g ↦ g.0 ∙ w.0
+      | inr none ↦ absurd (decided (open_at most room first x w.1 now y w.2 w.3 fits (cut_in now y some none)))
+    ]
     | inr w ↦ absurd (decided w)
   ]
 

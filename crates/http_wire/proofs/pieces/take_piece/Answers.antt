@@ -25,4 +25,3 @@ returns-in-Bad-clause-answer g c =
     let left = g.S.Source.left c.loop-next.source in
     subst (λ (v : Flow). OnStream before (stream v left) (TakesPiece (Err stopped.Malformed) c.args.piece)) (sym c.judge_piece.ensures.kept)
     (piece_bad before left c.loop-next.feed.pending c.args.piece c.loop-next.invariant.0 c.in-Bad.ensures.judged)
-
