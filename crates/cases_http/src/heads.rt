@@ -8,8 +8,8 @@ use http_wire::{
 };
 use std::alloc::Global;
 
-/// How the body is delimited, whether the connection ends and 100 Continue is awaited, the media type, and the start of a
-/// range.
+/// How the body is delimited, whether the connection ends and 100 Continue is awaited, the media
+/// type, and the start of a range.
 pub fn answer(alloc: Global, bytes: &[u8]) -> Result<String, NoMemory> {
     let mut feed = Feed::new(alloc)?;
     let mut source = source_of(alloc, bytes, Coming::Whole)?;

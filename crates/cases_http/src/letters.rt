@@ -17,7 +17,8 @@ impl Letters {
         }
     }
 
-    /// Gives a letter its text, and tells whether the definition is one: the letter, a space, and the text.
+    /// Gives a letter its text, and tells whether the definition is one: the letter, a space, and
+    /// the text.
     pub fn define(&mut self, alloc: Global, definition: &str) -> Result<bool, NoMemory> {
         let Some((letter, text)) = definition.split_once(' ') else {
             return Ok(false);

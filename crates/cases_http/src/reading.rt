@@ -24,8 +24,8 @@ pub enum Ending {
     NoMemory,
 }
 
-/// What was read of a stream: the decoded body of each request with a bar behind it, how they end, how often the source
-/// failed, and how often that was told.
+/// What was read of a stream: the decoded body of each request with a bar behind it, how they end,
+/// how often the source failed, and how often that was told.
 #[derive(Debug, Drop)]
 pub struct Reading {
     pub text: Vec<u8>,
@@ -51,8 +51,9 @@ impl Reading {
             && (self.ending == Ending::CutHead || self.ending == Ending::CutBody)
     }
 
-    /// The number of a read that nothing may ask for, where the bytes come one by one: behind the last one, or, where the
-    /// ending rests on the end of the input, behind the second read that finds it.
+    /// The number of a read that nothing may ask for, where the bytes come one by one: behind the
+    /// last one, or, where the ending rests on the end of the input, behind the second read that
+    /// finds it.
     pub fn needless_read(&self, length: u64) -> u64 {
         match self.ending {
             Ending::Done | Ending::CutHead | Ending::CutBody => length.saturating_add(2),

@@ -23,7 +23,8 @@ struct Case<'b> {
     bytes: &'b [u8],
 }
 
-// What came of a body, at the first call and at the next one, what is staged, and what stands in the stream then.
+// What came of a body, at the first call and at the next one, what is staged, and what stands in
+// the stream then.
 #[derive(Drop)]
 struct Taking {
     first: BodyTaken,
@@ -32,8 +33,9 @@ struct Taking {
     left: Vec<u8>,
 }
 
-/// What is staged, the answers of two calls, and what they leave in the stream; and in which way of coming that differs.
-/// A case is a length or a word for the framing, the most bytes, and the stream.
+/// What is staged, the answers of two calls, and what they leave in the stream; and in which way of
+/// coming that differs. A case is a length or a word for the framing, the most bytes, and the
+/// stream.
 pub fn answer(alloc: Global, text: &[u8]) -> Result<String, NoMemory> {
     let Some(case) = read_case(text) else {
         return Ok(String::from_str(alloc, NO_CASE)?);

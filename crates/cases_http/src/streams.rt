@@ -4,14 +4,16 @@ use crate::reading::{Reading, read_one, read_stream};
 use depot_api::NoMemory;
 use std::alloc::Global;
 
-// A longer stream is cut in two near its ends, and at every 97th place between, and no read of it fails.
+// A longer stream is cut in two near its ends, and at every 97th place between, and no read of it
+// fails.
 const SHORT: usize = 512;
 
 const NEAR: usize = 40;
 
 const STRIDE: usize = 97;
 
-/// The decoded bodies, each with a bar behind it, and how the requests end; and in which way the stream is read otherwise.
+/// The decoded bodies, each with a bar behind it, and how the requests end; and in which way the
+/// stream is read otherwise.
 pub fn answer(alloc: Global, bytes: &[u8]) -> Result<String, NoMemory> {
     let whole = read_stream(alloc, bytes, Coming::Whole)?;
     let text = String::from_utf8_lossy(alloc, &whole.text)?;
@@ -22,7 +24,8 @@ pub fn answer(alloc: Global, bytes: &[u8]) -> Result<String, NoMemory> {
     }
 }
 
-// A way of coming in which the stream is read otherwise, or in which a read is made that nothing may ask for.
+// A way of coming in which the stream is read otherwise, or in which a read is made that nothing
+// may ask for.
 fn differing(alloc: Global, bytes: &[u8], whole: &Reading) -> Result<Option<Coming>, NoMemory> {
     if !reads_so(alloc, bytes, Coming::ByteByByte, whole)? {
         return Ok(Some(Coming::ByteByByte));
@@ -74,7 +77,8 @@ fn reads_without_fault(
     Ok(reading.is(whole) && reading.faults == 0)
 }
 
-/// Whether a single request is read whole without a read behind its last byte, and is cut at every end before that.
+/// Whether a single request is read whole without a read behind its last byte, and is cut at every
+/// end before that.
 pub fn request_answer(alloc: Global, bytes: &[u8]) -> Result<String, NoMemory> {
     let reading = read_one(alloc, bytes)?;
     let text = String::from_utf8_lossy(alloc, &reading.text)?;

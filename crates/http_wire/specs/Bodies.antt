@@ -1,5 +1,6 @@
 -- Bodies (RFC 9112, sections 6 and 7): what a reader that stands somewhere in a body reads of the bytes to come.
 use Rattle.std.specs.Prelude.{◌≡◌, ℕ, ◌-◌, ◌<◌, ◌≤◌, ◌⊎◌, ◌==◌, if◌then◌else◌, List, [], ◌∷◌, ◌++◌, length, take, drop, All, ⊤}
+use Rattle.http_wire.specs.Limits.{size_line_limit, trailer_limit}
 use Rattle.httparse.specs.Grammar.{LineEnd, Field, IsField, print_section, ChunkLine, IsChunkLine, print_chunk_line, chunk_size}
 use Rattle.http_wire.specs.declared.body.BodyState.{BodyState}
 use Rattle.http_wire.specs.declared.body.BodyState.TheVariants as states
@@ -30,7 +31,8 @@ module _ {A : Type 0} (Ok : A → Type 0) (print : A → List ℕ) where
 
   -- after some front nothing can complete the piece, or `limit` bytes hold no whole one
   abbrev pub IsBadPiece : ℕ → List ℕ → Type 0
-  IsBadPiece limit bytes = (begin : List ℕ) × (rest : List ℕ) × (bytes ≡ begin ++ rest) × (length begin ≤ limit) × (NeverHas begin ⊎ ((length begin ≡ limit) × HasNone begin))
+  IsBadPiece limit bytes = (begin : List ℕ) × (rest : List ℕ) × (bytes ≡ begin ++ rest) × (length begin ≤ limit)
+      × (NeverHas begin ⊎ ((length begin ≡ limit) × HasNone begin))
 
   -- fewer bytes, which begin the piece
   abbrev pub IsCutPiece : ℕ → List ℕ → Type 0
@@ -62,20 +64,23 @@ after_size size = if size == 0 then states.Before pieces.Trailer else states.Dat
 -- the bytes begin with the piece, and behind it the reader stands there
 abbrev pub Passes : Piece → List ℕ → BodyState → List ℕ → Type 0
 Passes pieces.Gap bytes next rest = HasPiece IsGap print_gap 2 bytes tt rest × (next ≡ states.Before pieces.Line)
-Passes pieces.Line bytes next rest = (line : ChunkLine) × HasPiece IsChunkLine print_chunk_line 1024 bytes line rest × (next ≡ after_size (chunk_size line))
-Passes pieces.Trailer bytes next rest = (section : Section) × HasPiece IsSection print_trailer 16384 bytes section rest × (next ≡ states.Done)
+Passes pieces.Line bytes next rest =
+    (line : ChunkLine) × HasPiece IsChunkLine print_chunk_line size_line_limit bytes line rest
+    × (next ≡ after_size (chunk_size line))
+Passes pieces.Trailer bytes next rest =
+    (section : Section) × HasPiece IsSection print_trailer trailer_limit bytes section rest × (next ≡ states.Done)
 
 -- the bytes do not
 abbrev pub IsBadAt : Piece → List ℕ → Type 0
 IsBadAt pieces.Gap bytes = IsBadPiece IsGap print_gap 2 bytes
-IsBadAt pieces.Line bytes = IsBadPiece IsChunkLine print_chunk_line 1024 bytes
-IsBadAt pieces.Trailer bytes = IsBadPiece IsSection print_trailer 16384 bytes
+IsBadAt pieces.Line bytes = IsBadPiece IsChunkLine print_chunk_line size_line_limit bytes
+IsBadAt pieces.Trailer bytes = IsBadPiece IsSection print_trailer trailer_limit bytes
 
 -- the input ends inside the piece
 abbrev pub IsCutAt : Piece → List ℕ → Type 0
 IsCutAt pieces.Gap bytes = IsCutPiece IsGap print_gap 2 bytes
-IsCutAt pieces.Line bytes = IsCutPiece IsChunkLine print_chunk_line 1024 bytes
-IsCutAt pieces.Trailer bytes = IsCutPiece IsSection print_trailer 16384 bytes
+IsCutAt pieces.Line bytes = IsCutPiece IsChunkLine print_chunk_line size_line_limit bytes
+IsCutAt pieces.Trailer bytes = IsCutPiece IsSection print_trailer trailer_limit bytes
 
 -- ---- whole bodies
 
@@ -86,8 +91,10 @@ pub data Outcome : Type 0 where
 
 -- one step on, with the decoded bytes that it gives
 abbrev pub Goes : BodyState → List ℕ → BodyState → List ℕ → List ℕ → Type 0
-Goes (states.Fixed n) bytes next decoded rest = (n ≤ length bytes) × (next ≡ states.Done) × (decoded ≡ take n bytes) × (rest ≡ drop n bytes)
-Goes (states.Data n) bytes next decoded rest = (n ≤ length bytes) × (next ≡ states.Before pieces.Gap) × (decoded ≡ take n bytes) × (rest ≡ drop n bytes)
+Goes (states.Fixed n) bytes next decoded rest =
+    (n ≤ length bytes) × (next ≡ states.Done) × (decoded ≡ take n bytes) × (rest ≡ drop n bytes)
+Goes (states.Data n) bytes next decoded rest =
+    (n ≤ length bytes) × (next ≡ states.Before pieces.Gap) × (decoded ≡ take n bytes) × (rest ≡ drop n bytes)
 Goes (states.Before piece) bytes next decoded rest = Passes piece bytes next rest × (decoded ≡ [])
 Goes state bytes next decoded rest = ⊥
 
@@ -95,15 +102,19 @@ Goes state bytes next decoded rest = ⊥
 abbrev pub Stops : BodyState → List ℕ → List ℕ → Outcome → Type 0
 Stops (states.Fixed n) bytes decoded outcome = (length bytes < n) × (decoded ≡ bytes) × (outcome ≡ is_cut_short)
 Stops (states.Data n) bytes decoded outcome = (length bytes < n) × (decoded ≡ bytes) × (outcome ≡ is_cut_short)
-Stops (states.Before piece) bytes decoded outcome = (decoded ≡ []) × ((IsBadAt piece bytes × (outcome ≡ is_malformed)) ⊎ (IsCutAt piece bytes × (outcome ≡ is_cut_short)))
+Stops (states.Before piece) bytes decoded outcome =
+    (decoded ≡ []) × ((IsBadAt piece bytes × (outcome ≡ is_malformed))
+    ⊎ (IsCutAt piece bytes × (outcome ≡ is_cut_short)))
 Stops states.Done bytes decoded outcome = (decoded ≡ []) × (outcome ≡ ends_before bytes)
 Stops states.Refused bytes decoded outcome = (decoded ≡ []) × (outcome ≡ is_malformed)
 
 -- what a reader that stands there makes of the bytes to come: the decoded body, and how it ends
 pub data Runs : BodyState → List ℕ → List ℕ → Outcome → Type 0 where
-  stops : (state : BodyState) (bytes decoded : List ℕ) (outcome : Outcome) → Stops state bytes decoded outcome → Runs state bytes decoded outcome
+  stops : (state : BodyState) (bytes decoded : List ℕ) (outcome : Outcome) → Stops state bytes decoded outcome
+      → Runs state bytes decoded outcome
   goes : (state : BodyState) (bytes decoded : List ℕ) (outcome : Outcome) (next : BodyState) (first rest more : List ℕ)
-      → Goes state bytes next first rest → decoded ≡ first ++ more → Runs next rest more outcome → Runs state bytes decoded outcome
+      → Goes state bytes next first rest → decoded ≡ first ++ more → Runs next rest more outcome
+      → Runs state bytes decoded outcome
 
 -- the decoded bytes that the reader stands in: those that the Content-Length, or a size line, says are still to come
 abbrev pub due : BodyState → ℕ
@@ -119,11 +130,13 @@ less state count = state
 
 -- the reader moved on, by steps that gave nothing
 pub data Skips : BodyState → List ℕ → BodyState → List ℕ → Type 0 where
-  stays : (old : BodyState) (bytes : List ℕ) (new : BodyState) (rest : List ℕ) → old ≡ new → bytes ≡ rest → Skips old bytes new rest
+  stays : (old : BodyState) (bytes : List ℕ) (new : BodyState) (rest : List ℕ) → old ≡ new → bytes ≡ rest
+      → Skips old bytes new rest
   skips : (old : BodyState) (bytes : List ℕ) (new : BodyState) (rest : List ℕ) (last : BodyState) (behind : List ℕ)
       → Skips old bytes last behind → Goes last behind new [] rest → Skips old bytes new rest
 
 -- the reader moved on by steps that gave nothing, and then took these bytes, as they are, of the data that it stood in
 abbrev pub Moves : BodyState → List ℕ → List ℕ → BodyState → List ℕ → Type 0
 Moves old bytes given new rest =
-    (at : BodyState) × (behind : List ℕ) × Skips old bytes at behind × (length given ≤ due at) × (behind ≡ given ++ rest) × (new ≡ less at (length given))
+    (at : BodyState) × (behind : List ℕ) × Skips old bytes at behind × (length given ≤ due at)
+    × (behind ≡ given ++ rest) × (new ≡ less at (length given))

@@ -12,37 +12,48 @@ pub data Filling : Type 0 where
   within : Outcome → Filling
   is_too_long : Filling
 
--- what a reader makes of the bytes to come, if `most` decoded bytes may come: the body is too long where the Content-Length, or the
--- sum of the chunks, passes that, and its decoded bytes end there
+-- what a reader makes of the bytes to come, if `most` decoded bytes may come: the body is too long where the
+-- Content-Length, or the sum of the chunks, passes that, and its decoded bytes end there
 pub data Fills : ℕ → BodyState → List ℕ → List ℕ → Filling → Type 0 where
-  passes : (most : ℕ) (state : BodyState) (bytes decoded : List ℕ) (filling : Filling) → most < due state → decoded ≡ [] → filling ≡ is_too_long
+  passes : (most : ℕ) (state : BodyState) (bytes decoded : List ℕ) (filling : Filling) → most < due state
+      → decoded ≡ [] → filling ≡ is_too_long
       → Fills most state bytes decoded filling
-  stops_within : (most : ℕ) (state : BodyState) (bytes decoded : List ℕ) (filling : Filling) (outcome : Outcome) → due state ≤ most
+  stops_within : (most : ℕ) (state : BodyState) (bytes decoded : List ℕ) (filling : Filling) (outcome : Outcome)
+      → due state ≤ most
       → Stops state bytes decoded outcome → filling ≡ within outcome → Fills most state bytes decoded filling
-  goes_within : (most : ℕ) (state : BodyState) (bytes decoded : List ℕ) (filling : Filling) (next : BodyState) (first rest more : List ℕ) → due state ≤ most
-      → Goes state bytes next first rest → decoded ≡ first ++ more → Fills (most - length first) next rest more filling → Fills most state bytes decoded filling
+  goes_within : (most : ℕ) (state : BodyState) (bytes decoded : List ℕ) (filling : Filling) (next : BodyState)
+      (first rest more : List ℕ) → due state ≤ most
+      → Goes state bytes next first rest → decoded ≡ first ++ more → Fills (most - length first) next rest more filling
+      → Fills most state bytes decoded filling
 
 -- the reader moved on over some bytes and gave those decoded bytes, and never began data that would pass `most` of them
 pub data FillsOn : ℕ → BodyState → List ℕ → List ℕ → BodyState → List ℕ → Type 0 where
-  takes_none : (most : ℕ) (old : BodyState) (bytes given : List ℕ) (new : BodyState) (rest : List ℕ) → old ≡ new → bytes ≡ rest → given ≡ [] → FillsOn most old bytes given new rest
-  takes_piece : (most : ℕ) (old : BodyState) (bytes given : List ℕ) (new : BodyState) (rest : List ℕ) (last : BodyState) (behind : List ℕ)
+  takes_none : (most : ℕ) (old : BodyState) (bytes given : List ℕ) (new : BodyState) (rest : List ℕ) → old ≡ new
+      → bytes ≡ rest → given ≡ [] → FillsOn most old bytes given new rest
+  takes_piece : (most : ℕ) (old : BodyState) (bytes given : List ℕ) (new : BodyState) (rest : List ℕ)
+      (last : BodyState) (behind : List ℕ)
       → FillsOn most old bytes given last behind → Goes last behind new [] rest → FillsOn most old bytes given new rest
-  takes_data : (most : ℕ) (old : BodyState) (bytes given : List ℕ) (new : BodyState) (rest : List ℕ) (last : BodyState) (behind before more : List ℕ)
-      → FillsOn most old bytes before last behind → due last ≤ most - length before → length more ≤ due last → behind ≡ more ++ rest → new ≡ less last (length more)
+  takes_data : (most : ℕ) (old : BodyState) (bytes given : List ℕ) (new : BodyState) (rest : List ℕ) (last : BodyState)
+      (behind before more : List ℕ)
+      → FillsOn most old bytes before last behind → due last ≤ most - length before → length more ≤ due last
+      → behind ≡ more ++ rest → new ≡ less last (length more)
       → given ≡ before ++ more → FillsOn most old bytes given new rest
 
 -- these bytes were put behind the staged ones
 abbrev pub Gains : Staged → Staged → List ℕ → Type 0
-Gains before now bytes = (now.count ≡ before.count + length bytes) × (IsTrue before.tells → now.bytes ≡ before.bytes ++ bytes)
+Gains before now bytes =
+    (now.count ≡ before.count + length bytes) × (IsTrue before.tells → now.bytes ≡ before.bytes ++ bytes)
 
 -- these, and some of the next ones
 abbrev pub GainsSome : Staged → Staged → List ℕ → ℕ → List ℕ → Type 0
 GainsSome before now bytes most next =
     (before.count + length bytes ≤ now.count)
     × (now.count ≤ before.count + length bytes + most)
-    × (IsTrue before.tells → (some : ℕ) × (some ≤ most) × (some ≤ length next) × (now.bytes ≡ before.bytes ++ (bytes ++ take some next)))
+    × (IsTrue before.tells → (some : ℕ) × (some ≤ most) × (some ≤ length next)
+    × (now.bytes ≡ before.bytes ++ (bytes ++ take some next)))
 
--- a stage is that of its path, and tells as it did; where it tells its bytes, they are those that it held, and more behind them
+-- a stage is that of its path, and tells as it did; where it tells its bytes, they are those that it held, and more
+-- behind them
 pub record Extends (before now : Staged) : Type 0 where
   pub path : now.path ≡ before.path
   pub tells : now.tells ≡ before.tells
@@ -68,8 +79,8 @@ IsTakingEnd answers.Cut last rest = Stops last rest [] is_cut_short
 IsTakingEnd answers.Bad last rest = Stops last rest [] is_malformed
 IsTakingEnd answer last rest = ⊤
 
--- after so many decoded bytes: where the body is too long those that are due would pass the limit, and at the other answers
--- they would not. A stage fails only where data are due, and it may hold some of them
+-- after so many decoded bytes: where the body is too long those that are due would pass the limit, and at the other
+-- answers they would not. A stage fails only where data are due, and it may hold some of them
 abbrev pub KeepsLimit : BodyTaken → ℕ → ℕ → ℕ → Type 0
 KeepsLimit answers.TooLong most count left = most < count + left
 KeepsLimit answers.StageFault most count left = (0 < left) × (left ≤ most)

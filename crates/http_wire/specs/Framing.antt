@@ -21,7 +21,8 @@ values_of name (f ∷ fields) = if is_same f.0 name then f.1 ∷ values_of name 
 -- how many there are of that name, and the place of a single one
 abbrev pub IsFound : Found → List ℕ → List (List ℕ × List ℕ) → Type 0
 IsFound Absent name fields = values_of name fields ≡ []
-IsFound (One at) name fields = (at < length fields) × ((d : List ℕ × List ℕ) → values_of name fields ≡ (slice_index_or fields at d).1 ∷ [])
+IsFound (One at) name fields =
+    (at < length fields) × ((d : List ℕ × List ℕ) → values_of name fields ≡ (slice_index_or fields at d).1 ∷ [])
 IsFound Many name fields = (a : List ℕ) × (b : List ℕ) × (rest : List (List ℕ)) × (values_of name fields ≡ a ∷ b ∷ rest)
 
 -- 1 to 18 decimal digits
@@ -47,4 +48,5 @@ framing_of minor (a ∷ rest) (b ∷ more) = Bad
 
 -- the framing of a request with these fields
 abbrev pub framing_by : ℕ → List (List ℕ × List ℕ) → Framing
-framing_by minor fields = framing_of minor (values_of (codes "content-length") fields) (values_of (codes "transfer-encoding") fields)
+framing_by minor fields =
+    framing_of minor (values_of (codes "content-length") fields) (values_of (codes "transfer-encoding") fields)

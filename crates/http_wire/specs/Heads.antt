@@ -1,6 +1,8 @@
--- What a stream of bytes begins with (RFC 9112, sections 2 to 5): a head, nothing more, the front of a head, or neither.
+-- What a stream of bytes begins with (RFC 9112, sections 2 to 5): a head, nothing more, the front of a head, or
+-- neither.
 -- Each is said of some front of the stream, so it does not depend on where the stream was cut.
 use Rattle.std.specs.Prelude.{◌≡◌, ℕ, ◌<◌, ◌≤◌, ◌⊎◌, Bool, true, false, ◌==◌, if◌then◌else◌, List, [], ◌∷◌, ◌++◌, length}
+use Rattle.http_wire.specs.Limits.{field_limit, head_limit}
 use Rattle.std.specs.List.{list_all, list_any}
 use Rattle.httparse.specs.Grammar.{RequestHead, print_request, ReadsRequest, HasNoRequest, NeverHasRequest}
 use Rattle.httparse.specs.Pieces.{is_newline}
@@ -24,27 +26,30 @@ IsOpen bytes = HasNoRequest bytes × (has_line bytes ≡ true → MayHaveRequest
 
 -- a head of at most 16,384 bytes, and then the rest
 abbrev pub BeginsWithHead : List ℕ → RequestHead → List ℕ → Type 0
-BeginsWithHead bytes h rest = ReadsRequest bytes h rest × (length (print_request h) ≤ 16384)
+BeginsWithHead bytes h rest = ReadsRequest bytes h rest × (length (print_request h) ≤ head_limit)
 
 -- a front of at most 16,384 bytes is hopeless
 abbrev pub IsMalformed : List ℕ → Type 0
-IsMalformed bytes = (begin : List ℕ) × (rest : List ℕ) × (bytes ≡ begin ++ rest) × (length begin ≤ 16384) × IsHopeless begin
+IsMalformed bytes =
+    (begin : List ℕ) × (rest : List ℕ) × (bytes ≡ begin ++ rest) × (length begin ≤ head_limit) × IsHopeless begin
 
 -- the first 16,384 bytes are open
 abbrev pub IsOverfull : List ℕ → Type 0
-IsOverfull bytes = (begin : List ℕ) × (rest : List ℕ) × (bytes ≡ begin ++ rest) × (length begin ≡ 16384) × IsOpen begin
+IsOverfull bytes =
+    (begin : List ℕ) × (rest : List ℕ) × (bytes ≡ begin ++ rest) × (length begin ≡ head_limit) × IsOpen begin
 
 -- a head with more than 64 fields
 abbrev pub HasManyFields : List ℕ → Type 0
-HasManyFields bytes = (h : RequestHead) × (rest : List ℕ) × BeginsWithHead bytes h rest × (64 < length h.fields)
+HasManyFields bytes =
+    (h : RequestHead) × (rest : List ℕ) × BeginsWithHead bytes h rest × (field_limit < length h.fields)
 
 -- fewer bytes, CR and LF alone
 abbrev pub IsNothing : List ℕ → Type 0
-IsNothing bytes = (length bytes < 16384) × (list_all is_newline bytes ≡ true)
+IsNothing bytes = (length bytes < head_limit) × (list_all is_newline bytes ≡ true)
 
 -- fewer bytes, not CR and LF alone, and open
 abbrev pub IsCutHead : List ℕ → Type 0
-IsCutHead bytes = (length bytes < 16384) × IsOpen bytes × (list_all is_newline bytes ≡ false)
+IsCutHead bytes = (length bytes < head_limit) × IsOpen bytes × (list_all is_newline bytes ≡ false)
 
 -- what can be said of a stream
 pub data Verdict : Type 0 where
@@ -53,7 +58,7 @@ pub data Verdict : Type 0 where
 
 -- that it is so
 abbrev pub Holds : List ℕ → Verdict → Type 0
-Holds bytes (begins h rest) = BeginsWithHead bytes h rest × (length h.fields ≤ 64)
+Holds bytes (begins h rest) = BeginsWithHead bytes h rest × (length h.fields ≤ field_limit)
 Holds bytes is_nothing = IsNothing bytes
 Holds bytes is_cut = IsCutHead bytes
 Holds bytes is_malformed = IsMalformed bytes

@@ -1,6 +1,7 @@
 -- The proof's own: no public clause cites what stands here.
 -- What the bytes that have come are known to be, of a head.
 use Rattle.std.specs.Prelude.{◌≡◌, ℕ, ◌≤◌, ◌<◌, ◌⊎◌, true, false, List, drop, length, ⊤}
+use Rattle.http_wire.specs.Limits.{field_limit, head_limit}
 use Rattle.std.specs.List.{list_all}
 use Rattle.httparse.specs.Pieces.{is_newline}
 use Rattle.httparse.specs.Grammar.{RequestHead, ReadsRequest, print_request}
@@ -20,10 +21,10 @@ use Rattle.http_wire.specs.Heads.{HasManyFields, IsHopeless, IsOpen}
 abbrev pub Judges : Judged → List ℕ → Type 0
 Judges (judged.Whole head count) bytes =
     (h : RequestHead) × Shows head h × ReadsRequest bytes h (drop count bytes) × (count ≡ length (print_request h))
-    × (length h.fields ≤ 64) × (count ≤ length bytes)
+    × (length h.fields ≤ field_limit) × (count ≤ length bytes)
 Judges (judged.Bad faults.Malformed) bytes = IsHopeless bytes
-Judges (judged.Bad faults.TooLarge) bytes = ((length bytes ≡ 16384) × IsOpen bytes) ⊎ HasManyFields bytes
-Judges judged.Open bytes = IsOpen bytes × (length bytes < 16384)
+Judges (judged.Bad faults.TooLarge) bytes = ((length bytes ≡ head_limit) × IsOpen bytes) ⊎ HasManyFields bytes
+Judges judged.Open bytes = IsOpen bytes × (length bytes < head_limit)
 Judges judged.NoMemory bytes = ⊤
 
 -- what the bytes were parsed as
@@ -35,4 +36,5 @@ Parses parsed.Unfinished spans bytes = IsOpen bytes
 -- whether bytes at whose end the input ends are CR and LF alone
 abbrev pub EndsAs : Heading → List ℕ → Type 0
 EndsAs answer bytes =
-    ((list_all is_newline bytes ≡ true) × (answer ≡ headings.End)) ⊎ ((list_all is_newline bytes ≡ false) × (answer ≡ headings.Cut))
+    ((list_all is_newline bytes ≡ true) × (answer ≡ headings.End))
+    ⊎ ((list_all is_newline bytes ≡ false) × (answer ≡ headings.Cut))

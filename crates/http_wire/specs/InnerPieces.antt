@@ -1,6 +1,7 @@
 -- The proof's own: no public clause cites what stands here.
 -- The pieces of a chunked body, as they are judged, and taken off a stream.
 use Rattle.std.specs.Prelude.{◌≡◌, ℕ, ◌≤◌, ◌<◌, List, [], ◌++◌, drop, length, Result, Ok, Err, ⊤}
+use Rattle.http_wire.specs.Limits.{head_limit, size_line_limit, trailer_limit}
 use Rattle.http_wire.specs.declared.body.BodyState.{BodyState}
 use Rattle.http_wire.specs.declared.body.BodyState.TheVariants as states
 use Rattle.http_wire.specs.declared.body.Piece.{Piece}
@@ -13,7 +14,8 @@ use Rattle.http_wire.specs.Bodies.{after_size, Passes, IsBadAt, IsCutAt}
 
 -- what the bytes that have come are known to be, as if they were all: the piece, a bad one, or a cut one
 abbrev pub JudgesPiece : PieceJudged → Piece → List ℕ → Type 0
-JudgesPiece (judged.Whole next count) piece bytes = Passes piece bytes next (drop count bytes) × (0 < count) × (count ≤ length bytes)
+JudgesPiece (judged.Whole next count) piece bytes =
+    Passes piece bytes next (drop count bytes) × (0 < count) × (count ≤ length bytes)
 JudgesPiece judged.Bad piece bytes = IsBadAt piece bytes
 JudgesPiece judged.Open piece bytes = IsCutAt piece bytes
 
@@ -26,14 +28,14 @@ JudgesFront answer piece bytes =
 -- the most bytes of a piece
 abbrev pub limit_of : Piece → ℕ
 limit_of pieces.Gap = 2
-limit_of pieces.Line = 1024
-limit_of pieces.Trailer = 16384
+limit_of pieces.Line = size_line_limit
+limit_of pieces.Trailer = trailer_limit
 
 -- what a caller needs of the counts: bytes to take off the front, or room for more
 abbrev pub FitsFront : PieceJudged → List ℕ → Type 0
 FitsFront (judged.Whole next count) bytes = (0 < count) × (count ≤ length bytes)
 FitsFront judged.Bad bytes = ⊤
-FitsFront judged.Open bytes = length bytes < 16384
+FitsFront judged.Open bytes = length bytes < head_limit
 
 -- the piece was taken off the bytes, or they are as they were
 abbrev pub TakesPiece : Result BodyState Stop → Piece → List ℕ → List ℕ → Type 0

@@ -31,7 +31,8 @@ PutsNone answer most old new before now = (new ≡ old) × Gains before now []
 
 -- some bytes were taken off the stream and put behind the staged ones, or none
 abbrev pub PutsSome : Result ℕ BodyTaken → ℕ → List ℕ → List ℕ → Staged → Staged → Type 0
-PutsSome (Ok n) most old new before now = (bytes : List ℕ) × (old ≡ bytes ++ new) × (length bytes ≡ n) × Gains before now bytes
+PutsSome (Ok n) most old new before now =
+    (bytes : List ℕ) × (old ≡ bytes ++ new) × (length bytes ≡ n) × Gains before now bytes
 PutsSome (Err answer) most old new before now = PutsNone answer most old new before now
 
 -- how many, also where a device does not tell which

@@ -28,7 +28,8 @@ taking_of stopped.Long = answers.Long
 
 -- what a reader can reach from where it stood, whatever the source is, and where it stands then
 abbrev pub CanReach : BodyState → Result ℕ Stop → BodyState → Type 0
-CanReach (states.Fixed n) what next = (what ≡ Ok n) × (((next ≡ states.Fixed n) × (0 < n)) ⊎ ((n ≡ 0) × (next ≡ states.Done)))
+CanReach (states.Fixed n) what next =
+    (what ≡ Ok n) × (((next ≡ states.Fixed n) × (0 < n)) ⊎ ((n ≡ 0) × (next ≡ states.Done)))
 CanReach (states.Data n) what next = 0 < n → (what ≡ Ok n) × (next ≡ states.Data n)
 CanReach (states.Before pieces.Trailer) what next = IfOk what (λ left. left ≡ 0)
 CanReach (states.Before piece) what next = ⊤
@@ -53,7 +54,8 @@ HasDue (Err stop) count = count ≡ 0
 
 -- the bytes end before a piece, or inside it, and before any data
 abbrev pub EndsInPiece : BodyState → List ℕ → Type 0
-EndsInPiece state bytes = (piece : Piece) × (behind : List ℕ) × Skips state bytes (states.Before piece) behind × IsCutAt piece behind
+EndsInPiece state bytes =
+    (piece : Piece) × (behind : List ℕ) × Skips state bytes (states.Before piece) behind × IsCutAt piece behind
 
 -- some bytes were taken off the stream as they are, or the input had ended
 abbrev pub GivesData : Result ℕ Stop → List ℕ → List ℕ → List ℕ → Type 0

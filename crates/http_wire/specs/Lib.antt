@@ -1,3 +1,4 @@
+pub mod Limits
 pub mod Flow
 pub mod Fields
 pub mod Heads

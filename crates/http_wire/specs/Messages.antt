@@ -1,5 +1,5 @@
--- The messages of a stream (RFC 9112, sections 2 to 9): requests, each a head and a decoded body, that stand one behind the
--- other from the front, up to the first place where there is none, or a message that ends the connection.
+-- The messages of a stream (RFC 9112, sections 2 to 9): requests, each a head and a decoded body, that stand one
+-- behind the other from the front, up to the first place where there is none, or a message that ends the connection.
 use Rattle.std.specs.Prelude.{◌≡◌, ℕ, suc, ◌⊎◌, Bool, true, false, List, [], ◌∷◌, map, Option, Some, None}
 use Rattle.httparse.specs.Grammar.{RequestHead}
 use Rattle.httparse.specs.Spans.{name_and_value}
@@ -40,7 +40,8 @@ behind_first limits number = limits (suc number)
 -- what a reader makes of the bytes to come, of which so many decoded ones may come, or any number
 abbrev pub ReadsBody : Option ℕ → BodyState → List ℕ → List ℕ → Filling → Type 0
 ReadsBody (Some most) state bytes decoded filling = Fills most state bytes decoded filling
-ReadsBody None state bytes decoded filling = (outcome : Outcome) × Runs state bytes decoded outcome × (filling ≡ within outcome)
+ReadsBody None state bytes decoded filling =
+    (outcome : Outcome) × Runs state bytes decoded outcome × (filling ≡ within outcome)
 
 -- the bytes are a head, and behind it a body that decodes so and ends so
 abbrev pub HasBody : Option ℕ → List ℕ → RequestHead → List ℕ → Filling → Type 0

@@ -22,8 +22,10 @@ body_behind head = first_state (framing_by head.minor (fields_of head))
 pub data Decodes : BodyState → List ℕ → List ℕ → BodyState → List ℕ → Type 0 where
   decodes_none : (old : BodyState) (bytes given : List ℕ) (new : BodyState) (rest : List ℕ)
       → old ≡ new → bytes ≡ rest → given ≡ [] → Decodes old bytes given new rest
-  decodes_more : (old : BodyState) (bytes given : List ℕ) (new : BodyState) (rest : List ℕ) (last : BodyState) (behind before more : List ℕ)
-      → Decodes old bytes before last behind → Moves last behind more new rest → given ≡ before ++ more → Decodes old bytes given new rest
+  decodes_more : (old : BodyState) (bytes given : List ℕ) (new : BodyState) (rest : List ℕ) (last : BodyState)
+      (behind before more : List ℕ)
+      → Decodes old bytes before last behind → Moves last behind more new rest → given ≡ before ++ more
+      → Decodes old bytes given new rest
 
 -- a message has the head that was read, and this body
 abbrev pub IsRead : Head → List ℕ → Message → Type 0

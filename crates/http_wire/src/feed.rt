@@ -6,6 +6,7 @@ ghost use Rattle.depot_api.specs.Streams.{counted};
 ghost use Rattle.http_wire.specs.InnerHeads.{Judges};
 ghost use Rattle.http_wire.specs.InnerPieces.{JudgesFront, FitsFront};
 ghost use Rattle.http_wire.specs.Flow.{stream, IsBounded, Counts};
+ghost use Rattle.http_wire.specs.Limits.{feed_limit, head_limit};
 ghost use Rattle.http_wire.specs.Flow as words;
 
 use crate::NoMemory;
@@ -18,17 +19,17 @@ use httparse::spans::{EMPTY_HEADER_SPAN, HeaderSpan};
 use std::alloc::Global;
 use std::marker::Model;
 
-/// The most bytes of a head, and of the trailer section of a body.
-pub(crate) const ROOM: usize = 16_384;
+/// The most bytes of a head, and of any piece of a body.
+pub(crate) const HEAD_LIMIT: usize = 16_384;
 
 // More than the fields that so many bytes can hold.
 const SPANS: usize = 8_192;
 
 // A feed that has taken so many bytes takes no more.
-const MOST_TAKEN: u64 = 1_125_899_906_842_624;
+const FEED_LIMIT: u64 = 1_125_899_906_842_624;
 
-/// A buffer between a source and the readers of messages, which is filled from the source piece by piece. Contracts see the bytes that wait
-/// in it, and how many bytes it has taken in all.
+/// A buffer between a source and the readers of messages, which is filled from the source piece by
+/// piece. Contracts see the bytes that wait in it, and how many bytes it has taken in all.
 #[derive(Drop)]
 pub struct Feed {
     buffer: Vec<u8>,
@@ -46,17 +47,20 @@ impl Model for Feed {
 
     ghost view = { λ f. record { pending = slice_range f.buffer.items f.start f.end; taken = f.taken } };
 
-    ghost invariant = { λ f. (f.start ≤ f.end) × (f.end ≤ 16384) × (length f.buffer.items ≡ 16384) × (length f.spans.items ≡ 8192) × (f.taken < 2 ^ 50 + 2 ^ 15) × (f.end - f.start ≤ f.taken) };
+    ghost invariant = { λ f. (f.start ≤ f.end) × (f.end ≤ 16384) × (length f.buffer.items ≡ 16384)
+        × (length f.spans.items ≡ 8192) × (f.taken < 2 ^ 50 + 2 ^ 15)
+        × (f.end - f.start ≤ f.taken) };
 }
 
 impl Feed {
-    /// An empty feed. It takes all the memory that it will ever need, about 280 KB: an error is want of it.
+    /// An empty feed. It takes all the memory that it will ever need, about 280 KB: an error is
+    /// want of it.
     pub fn new(alloc: Global) -> Result<Feed, NoMemory>
         ensures pending { IfOk result (λ f. f.pending ≡ []) }
         ensures taken { IfOk result (λ f. f.taken ≡ 0) }
     {
         Ok(Feed {
-            buffer: empty_buffer(alloc, ROOM)?,
+            buffer: empty_buffer(alloc, HEAD_LIMIT)?,
             spans: empty_spans(alloc, SPANS)?,
             start: 0,
             end: 0,
@@ -67,7 +71,7 @@ impl Feed {
     /// The bytes that wait.
     pub(crate) fn pending(&self) -> &[u8]
         ensures bytes { result.now ≡ self.now.pending }
-        ensures few { length self.now.pending ≤ 16384 }
+        ensures few { length self.now.pending ≤ head_limit }
         ensures bounded { IsBounded self.now }
     {
         &self.buffer[self.start..self.end]
@@ -77,13 +81,14 @@ impl Feed {
     pub(crate) fn judge(&mut self, alloc: Global) -> Judged
         ensures kept { self.new ≡ self.old }
         ensures judged { Judges result self.old.pending }
-        ensures few { length self.old.pending ≤ 16384 }
+        ensures few { length self.old.pending ≤ head_limit }
         ensures bounded { IsBounded self.old }
     {
         judge(alloc, &self.buffer[self.start..self.end], &mut self.spans)
     }
 
-    /// What the bytes that wait are known to be, in a chunked body that has come before such a piece.
+    /// What the bytes that wait are known to be, in a chunked body that has come before such a
+    /// piece.
     pub(crate) fn judge_piece(&mut self, piece: Piece) -> PieceJudged
         ensures kept { self.new ≡ self.old }
         ensures judged { JudgesFront result piece self.old.pending }
@@ -94,7 +99,7 @@ impl Feed {
         judge_piece(piece, &self.buffer[self.start..end], &mut self.spans)
     }
 
-    /// Copies bytes off the front: as many as there are and as there is room for.
+    /// Copies bytes off the front: as many as there are and as fit.
     pub(crate) fn copy_to(&mut self, into: &mut [u8]) -> usize
         ensures count { result ≡ min (length self.old.pending) (length into.old) }
         ensures bytes { self.old.pending ≡ take result into.new ++ self.new.pending }
@@ -118,13 +123,17 @@ impl Feed {
 
     /// Reads once from the source, where no bytes wait.
     pub(crate) fn wait<S: Source>(&mut self, source: &mut S) -> Result<(), Stop>
-        ensures bytes { Keeps (stream self.old (S.left source.old)) (stream self.new (S.left source.new)) }
+        ensures bytes { Keeps (stream self.old (S.left source.old))
+            (stream self.new (S.left source.new)) }
         ensures some { OnOk result (0 < length self.new.pending) }
-        ensures ended { IsErrOf result Stop.Ended → (self.new.pending ≡ []) × IsAtEnd (S.left source.new) }
-        ensures at_hand { 0 < length self.old.pending → (source.new ≡ source.old) × (self.new ≡ self.old) }
+        ensures ended { IsErrOf result Stop.Ended → (self.new.pending ≡ [])
+            × IsAtEnd (S.left source.new) }
+        ensures at_hand { 0 < length self.old.pending → (source.new ≡ source.old)
+            × (self.new ≡ self.old) }
         ensures sound { ¬ (IsErrOf result Stop.Malformed) }
-        ensures cause { HasCause (S.faults source.old) (S.faults source.new) (IsErrOf result Stop.SourceFault) }
-        ensures long { IsErrOf result Stop.Long → 2 ^ 50 ≤ self.new.taken }
+        ensures cause { HasCause (S.faults source.old) (S.faults source.new)
+            (IsErrOf result Stop.SourceFault) }
+        ensures long { IsErrOf result Stop.Long → feed_limit ≤ self.new.taken }
         ensures counts { Counts self.old (S.given source.old) self.new (S.given source.new) }
         ensures bounded { IsBounded self.new }
         ensures read_already { words.spent self.new ≡ words.spent self.old }
@@ -137,19 +146,21 @@ impl Feed {
 
     /// Reads once from the source, behind the bytes that wait.
     pub(crate) fn refill<S: Source>(&mut self, source: &mut S) -> Result<(), Stop>
-        requires { length self.old.pending < 16384 }
-        ensures bytes { Keeps (stream self.old (S.left source.old)) (stream self.new (S.left source.new)) }
+        requires { length self.old.pending < head_limit }
+        ensures bytes { Keeps (stream self.old (S.left source.old))
+            (stream self.new (S.left source.new)) }
         ensures grows { OnOk result (length self.old.pending < length self.new.pending) }
         ensures kept { OnErr result (self.new ≡ self.old) }
         ensures ended { IsErrOf result Stop.Ended → IsAtEnd (S.left source.new) }
         ensures sound { ¬ (IsErrOf result Stop.Malformed) }
-        ensures cause { HasCause (S.faults source.old) (S.faults source.new) (IsErrOf result Stop.SourceFault) }
-        ensures long { IsErrOf result Stop.Long → 2 ^ 50 ≤ self.new.taken }
+        ensures cause { HasCause (S.faults source.old) (S.faults source.new)
+            (IsErrOf result Stop.SourceFault) }
+        ensures long { IsErrOf result Stop.Long → feed_limit ≤ self.new.taken }
         ensures counts { Counts self.old (S.given source.old) self.new (S.given source.new) }
         ensures bounded { IsBounded self.new }
         ensures read_already { words.spent self.new ≡ words.spent self.old }
     {
-        if self.taken >= MOST_TAKEN {
+        if self.taken >= FEED_LIMIT {
             return Err(Stop::Long);
         }
         let waiting = self.end - self.start;
@@ -192,8 +203,10 @@ fn fill<S: Source>(
     requires within { end ≤ length buffer.old }
     ensures moved { take (end - start) buffer.new ≡ slice_range buffer.old start end }
     ensures fits { IfOk result (λ n. end - start + n ≤ length buffer.old) }
-    ensures bytes { ReadConsumes (S.left source.old) (S.left source.new) result (drop (end - start) buffer.new) }
-    ensures count { MatchResult result (λ n. S.given source.new ≡ counted (S.given source.old) n) (λ _. S.given source.new ≡ S.given source.old) }
+    ensures bytes { ReadConsumes (S.left source.old) (S.left source.new) result
+        (drop (end - start) buffer.new) }
+    ensures count { MatchResult result (λ n. S.given source.new ≡ counted (S.given source.old) n)
+        (λ _. S.given source.new ≡ S.given source.old) }
     ensures cause { HasCause (S.faults source.old) (S.faults source.new) (IsErr result) }
 {
     move_to_front(buffer, start, end);

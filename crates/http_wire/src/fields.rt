@@ -36,7 +36,9 @@ pub(crate) fn find(fields: &[Field], name: &[u8]) -> Found
 
 /// The value of the first field of that name.
 pub(crate) fn first<'h>(fields: &'h [Field], name: &[u8]) -> Option<&'h [u8]>
-    ensures { MatchOption result (framing.values_of name.now (map field_parts fields.now) ≡ []) (λ v. (rest : List (List ℕ)) × (framing.values_of name.now (map field_parts fields.now) ≡ v.now ∷ rest)) }
+    ensures { MatchOption result (framing.values_of name.now (map field_parts fields.now) ≡ [])
+        (λ v. (rest : List (List ℕ))
+        × (framing.values_of name.now (map field_parts fields.now) ≡ v.now ∷ rest)) }
 {
     match place_of(fields, name) {
         Some(at) => Some(fields[at].value.as_slice()),

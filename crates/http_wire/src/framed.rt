@@ -7,9 +7,9 @@ ghost use Rattle.http_wire.specs.Framing as spec;
 use crate::fields::{Found, find, is_same};
 use crate::{Framing, Head};
 
-/// Where the body of a request ends, by its Content-Length (RFC 9110, section 8.6) and Transfer-Encoding fields (RFC
-/// 9112, sections 6.1 to 6.3): one field of 1 to 18 decimal digits, or in HTTP/1.1 one of `chunked`; with neither, a
-/// body of no bytes. It takes no memory.
+/// Where the body of a request ends, by its Content-Length (RFC 9110, section 8.6) and
+/// Transfer-Encoding fields (RFC 9112, sections 6.1 to 6.3): one field of 1 to 18 decimal digits,
+/// or in HTTP/1.1 one of `chunked`; with neither, a body of no bytes. It takes no memory.
 pub fn framing(head: &Head) -> Framing
     ensures { result ≡ spec.framing_by head.now.minor (fields_of head.now) }
 {
@@ -46,7 +46,8 @@ fn coding_framing(minor: u8, text: &[u8]) -> Framing
 
 /// The number that 1 to 18 decimal digits write.
 pub(crate) fn number(text: &[u8]) -> Option<u64>
-    ensures { MatchOption result (IsFalse (spec.is_number text.now)) (λ n. IsTrue (spec.is_number text.now) × (n ≡ digits_value 10 text.now)) }
+    ensures { MatchOption result (IsFalse (spec.is_number text.now))
+        (λ n. IsTrue (spec.is_number text.now) × (n ≡ digits_value 10 text.now)) }
 {
     if text.is_empty() || text.len() > 18 {
         return None;

@@ -4,14 +4,16 @@ ghost use Rattle.http_wire.specs.Answers.{number_of};
 
 use depot_api::{Bytes, Text};
 
-/// A field of a head (RFC 9112, section 5): its name as it was written, and its value without the white space around it.
+/// A field of a head (RFC 9112, section 5): its name as it was written, and its value without the
+/// white space around it.
 #[derive(Debug, Drop)]
 pub struct Field {
     pub name: Text,
     pub value: Bytes,
 }
 
-/// The head of a request (RFC 9112, section 3), with its fields in their order. `minor` is 0 or 1, of HTTP/1.0 or HTTP/1.1.
+/// The head of a request (RFC 9112, section 3), with its fields in their order. `minor` is 0 or 1,
+/// of HTTP/1.0 or HTTP/1.1.
 #[derive(Debug, Drop)]
 pub struct Head {
     pub method: Text,

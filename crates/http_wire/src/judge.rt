@@ -7,9 +7,10 @@ ghost use Rattle.httparse.specs.Grammar.{RequestHead};
 ghost use Rattle.httparse.specs.Spans.{IsWithin, IsHeaderWithin, IsRequestAt, IsRequestWithin, header_bytes, span_bytes};
 ghost use Rattle.http_wire.specs.InnerHeads.{Judges, Parses};
 ghost use Rattle.http_wire.specs.Fields.{field_parts, Shows};
+ghost use Rattle.http_wire.specs.Limits.{head_limit};
 ghost use Rattle.http_wire.specs.Heads as heads;
 
-use crate::feed::ROOM;
+use crate::feed::HEAD_LIMIT;
 use crate::head::BadHead;
 use crate::{Bytes, Field, Head, NoMemory, Text};
 use httparse::Status;
@@ -17,7 +18,7 @@ use httparse::spans::{HeaderSpan, RequestSpans, Span, parse_request};
 use std::alloc::Global;
 
 // The most fields of a head.
-const MOST_FIELDS: usize = 64;
+const FIELD_LIMIT: usize = 64;
 
 /// What the front of a stream is known to be. A whole head comes with the number of its bytes.
 #[derive(Debug, Drop)]
@@ -37,21 +38,21 @@ enum Parsed {
     Unfinished,
 }
 
-/// Judges bytes, of which nothing is refused before a line has come or the room is full.
+/// Judges bytes, of which nothing is refused before a line has come or the buffer is full.
 pub(crate) fn judge(alloc: Global, bytes: &[u8], spans: &mut [HeaderSpan]) -> Judged
-    requires few { length bytes.now ≤ 16384 }
-    requires room { length spans.old ≡ 8192 }
+    requires few { length bytes.now ≤ head_limit }
+    requires spans { length spans.old ≡ 8192 }
     ensures { Judges result bytes.now }
 {
     match parse(bytes, spans) {
-        Parsed::Whole(found) if found.headers > MOST_FIELDS => Judged::Bad(BadHead::TooLarge),
+        Parsed::Whole(found) if found.headers > FIELD_LIMIT => Judged::Bad(BadHead::TooLarge),
         Parsed::Whole(found) => match head_at(alloc, bytes, spans, &found) {
             Ok(head) => Judged::Whole(head, found.len),
             Err(NoMemory) => Judged::NoMemory,
         },
         Parsed::Malformed => Judged::Bad(BadHead::Malformed),
         Parsed::Unfinished => {
-            if bytes.len() == ROOM {
+            if bytes.len() == HEAD_LIMIT {
                 Judged::Bad(BadHead::TooLarge)
             } else {
                 Judged::Open
@@ -61,8 +62,8 @@ pub(crate) fn judge(alloc: Global, bytes: &[u8], spans: &mut [HeaderSpan]) -> Ju
 }
 
 fn parse(bytes: &[u8], spans: &mut [HeaderSpan]) -> Parsed
-    requires few { length bytes.now ≤ 16384 }
-    requires room { length spans.old ≡ 8192 }
+    requires few { length bytes.now ≤ head_limit }
+    requires spans { length spans.old ≡ 8192 }
     ensures { Parses result spans.new bytes.now }
 {
     if !has_line(bytes) {
@@ -108,7 +109,8 @@ fn head_at(
 ) -> Result<Head, NoMemory>
     requires within { IsRequestWithin bytes.now spans.now found.now }
     requires head { (h : RequestHead) × IsRequestAt bytes.now spans.now found.now h }
-    ensures { IfOk result (λ head. (h : RequestHead) → IsRequestAt bytes.now spans.now found.now h → Shows head h) }
+    ensures { IfOk result (λ head. (h : RequestHead) → IsRequestAt bytes.now spans.now found.now h
+        → Shows head h) }
 {
     Ok(Head {
         method: text_at(alloc, bytes, found.method)?,
@@ -121,7 +123,8 @@ fn head_at(
 fn fields_at(alloc: Global, bytes: &[u8], spans: &[HeaderSpan]) -> Result<Vec<Field>, NoMemory>
     requires within { All (IsHeaderWithin (length bytes.now)) spans.now }
     requires names { All (λ s. IsUtf8 (span_bytes bytes.now s.name)) spans.now }
-    ensures { IfOk result (λ fields. map field_parts fields.items ≡ map (header_bytes bytes.now) spans.now) }
+    ensures { IfOk result (λ fields. map field_parts fields.items ≡ map
+        (header_bytes bytes.now) spans.now) }
 {
     let mut fields = Vec::with_capacity(alloc, spans.len())?;
     for span in spans {

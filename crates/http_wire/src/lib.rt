@@ -1,8 +1,9 @@
-//! HTTP/1.1 requests, read from a stream of bytes exactly, however the stream is cut.
-//! `read_head` reads a head, `framing` says where its body ends, `read_body` reads the decoded body, and `take_body` stages it.
-//! Each answer is proved to be what the bytes are, and no two answers fit one stream: each stream has one list of messages.
-//! A session reads its requests with these calls, over any source of bytes. Nothing but a head and a stage takes memory.
-//! The rules are those of RFC 9112, sections 2 to 7, and of RFC 9110 for the fields.
+//! HTTP/1.1 requests, read from a stream of bytes exactly, however the stream is cut. `read_head`
+//! reads a head, `framing` says where its body ends, `read_body` reads the decoded body, and
+//! `take_body` stages it. Each answer is proved to be what the bytes are, and no two answers fit
+//! one stream: each stream has one list of messages. A session reads its requests with these calls,
+//! over any source of bytes. Nothing but a head and a stage takes memory. The rules are those of
+//! RFC 9112, sections 2 to 7, and of RFC 9110 for the fields.
 #![tactic(auto)]
 
 mod body;

@@ -12,13 +12,15 @@ ghost use Rattle.http_wire.specs.Reading.{body_behind, Decodes, IsRead, ReadsMes
 
 use crate::{BodyReader, BodyStep, BodyTaken, Head, Heading};
 
-/// A law: a stream has one list of messages at most, which ends in one way. So it does not matter in which pieces it comes.
+/// A law: a stream has one list of messages at most, which ends in one way. So it does not matter
+/// in which pieces it comes.
 pub fn messages_are_one()
     ensures { (limits : Limits) (bytes : List ℕ) (one other : List Message) (end last : Ending)
         → Messages limits bytes one end → Messages limits bytes other last → (one ≡ other) × (end ≡ last) }
 {}
 
-/// A law: what stands behind a message that was read, and does not end the connection, are the messages behind it.
+/// A law: what stands behind a message that was read, and does not end the connection, are the
+/// messages behind it.
 pub fn messages_go_on()
     ensures { (limits : Limits) (bytes rest : List ℕ) (first : Message) (messages : List Message) (ending : Ending)
         → ReadsMessage (limits 0 first.head) bytes first rest → is_last first ≡ false → Messages limits bytes messages ending
@@ -31,13 +33,15 @@ pub fn spellings_are_apart()
         → ReadsMessage limit bytes one [] → ReadsMessage other_limit (bytes ++ more) other [] → more ≡ [] }
 {}
 
-/// A law: every stream has a list of messages, and an end of it; by `messages_are_one` it has no other.
+/// A law: every stream has a list of messages, and an end of it; by `messages_are_one` it has no
+/// other.
 pub fn streams_have_messages()
     ensures { (limits : Limits) (bytes : List ℕ) → (messages : List Message) × (ending : Ending) × Messages limits bytes messages ending }
 {}
 
-/// A law: a head that was read, and the body behind it that was read or staged whole, are a message of the stream. `reader` is
-/// that of the framing of the head, and `last` is where it stands behind the body.
+/// A law: a head that was read, and the body behind it that was read or staged whole, are a message
+/// of the stream. `reader` is that of the framing of the head, and `last` is where it stands behind
+/// the body.
 pub fn calls_read_messages()
     ensures decoded { (head : Head) (reader last : BodyReader) (old mid new body : List ℕ) → TellsHead (Heading.Head head) old mid
         → state_of reader ≡ body_behind head → Decodes (state_of reader) mid body (state_of last) new
@@ -50,7 +54,8 @@ pub fn calls_read_messages()
         → (body : List ℕ) × (m : Message) × IsRead head body m × Gains before now body × (length body ≡ n) × ReadsMessage (Some most) old m new }
 {}
 
-/// A law: messages that were read one behind the other, and those behind them, are the messages of the stream.
+/// A law: messages that were read one behind the other, and those behind them, are the messages of
+/// the stream.
 pub fn messages_add_up()
     ensures more { (limits : Limits) (old mid new : List ℕ) (messages : List Message) (m : Message) → ReadsMessages limits old messages mid
         → ReadsMessage (limits (length messages) m.head) mid m new → is_last m ≡ false → ReadsMessages limits old (messages ++ m ∷ []) new }
@@ -58,7 +63,8 @@ pub fn messages_add_up()
         → Messages (behind (length messages) limits) mid others ending → Messages limits old (messages ++ others) ending }
 {}
 
-/// A law: where no head is read, or a body is not read or staged whole, the answer says how the messages end.
+/// A law: where no head is read, or a body is not read or staged whole, the answer says how the
+/// messages end.
 pub fn calls_end_messages()
     ensures heads { (limits : Limits) (answer : Heading) (old new : List ℕ) (ending : Ending) → TellsHead answer old new → HeadEnds answer ending
         → Messages limits old [] ending }

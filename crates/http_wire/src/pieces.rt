@@ -5,6 +5,7 @@ ghost use Rattle.reg_names.specs.Cause.{HasCause};
 ghost use Rattle.http_wire.specs.Bodies as bodies;
 ghost use Rattle.http_wire.specs.Bodies.{IsCutAt};
 ghost use Rattle.http_wire.specs.InnerPieces.{limit_of, JudgesPiece, IsAfter, TakesPiece};
+ghost use Rattle.http_wire.specs.Limits.{feed_limit, head_limit, size_line_limit};
 ghost use Rattle.http_wire.specs.Flow.{stream, spent, IsBounded, OnStream, Counts};
 
 use crate::body::{BodyState, Piece};
@@ -13,10 +14,16 @@ use crate::{Feed, Source};
 use httparse::spans::{HeaderSpan, parse_headers};
 use httparse::{Status, parse_chunk_size};
 
+// The most bytes of a chunk's size line, and of a trailer section.
+const SIZE_LINE_LIMIT: usize = 1_024;
+
+const TRAILER_LIMIT: usize = 16_384;
+
 // The most hexadecimal digits of a chunk's size.
 const MOST_DIGITS: usize = 16;
 
-/// What the front of a stream is known to be. A whole piece comes with the state behind it and the number of its bytes.
+/// What the front of a stream is known to be. A whole piece comes with the state behind it and the
+/// number of its bytes.
 #[derive(Clone, Copy, Debug, PartialEq, Eq)]
 pub(crate) enum PieceJudged {
     Whole(BodyState, usize),
@@ -31,15 +38,15 @@ pub(crate) fn limit(piece: Piece) -> usize
 {
     match piece {
         Piece::Gap => 2,
-        Piece::Line => 1_024,
-        Piece::Trailer => 16_384,
+        Piece::Line => SIZE_LINE_LIMIT,
+        Piece::Trailer => TRAILER_LIMIT,
     }
 }
 
 /// Judges bytes that are no more than the piece may have.
 pub(crate) fn judge_piece(piece: Piece, bytes: &[u8], spans: &mut [HeaderSpan]) -> PieceJudged
     requires few { length bytes.now ≤ limit_of piece }
-    requires room { length spans.old ≡ 8192 }
+    requires spans { length spans.old ≡ 8192 }
     ensures { JudgesPiece result piece bytes.now }
 {
     match piece {
@@ -62,7 +69,7 @@ fn judge_gap(bytes: &[u8]) -> PieceJudged
 }
 
 fn judge_line(bytes: &[u8]) -> PieceJudged
-    requires { length bytes.now ≤ 1024 }
+    requires { length bytes.now ≤ size_line_limit }
     ensures { JudgesPiece result Piece.Line bytes.now }
 {
     match parse_chunk_size(bytes) {
@@ -84,8 +91,8 @@ fn after_size(size: u64) -> BodyState
 }
 
 fn judge_trailer(bytes: &[u8], spans: &mut [HeaderSpan]) -> PieceJudged
-    requires few { length bytes.now ≤ 16384 }
-    requires room { length spans.old ≡ 8192 }
+    requires few { length bytes.now ≤ head_limit }
+    requires spans { length spans.old ≡ 8192 }
     ensures { JudgesPiece result Piece.Trailer bytes.now }
 {
     match parse_headers(bytes, spans) {
@@ -96,21 +103,25 @@ fn judge_trailer(bytes: &[u8], spans: &mut [HeaderSpan]) -> PieceJudged
     }
 }
 
-/// Takes a piece off the stream, and answers where a reader stands behind it. With an error the stream is as it was.
+/// Takes a piece off the stream, and answers where a reader stands behind it. With an error the
+/// stream is as it was.
 pub(crate) fn take_piece<S: Source>(
     feed: &mut Feed,
     source: &mut S,
     piece: Piece,
 ) -> Result<BodyState, Stop>
-    ensures answer { OnStream (stream feed.old (S.left source.old)) (stream feed.new (S.left source.new)) (TakesPiece result piece) }
+    ensures answer { OnStream (stream feed.old (S.left source.old))
+        (stream feed.new (S.left source.new)) (TakesPiece result piece) }
     ensures next { IfOk result (IsAfter piece) }
-    ensures at_hand { ((source.new ≡ source.old) × TakesPiece result piece feed.old.pending feed.new.pending)
+    ensures at_hand { ((source.new ≡ source.old)
+        × TakesPiece result piece feed.old.pending feed.new.pending)
         ⊎ IsCutAt piece feed.old.pending }
     ensures at_end { IsErrOf result Stop.Ended → IsAtEnd (S.left source.new) }
     ensures bounded { IsBounded feed.new }
     ensures progress { spent feed.old ≤ spent feed.new }
-    ensures cause { HasCause (S.faults source.old) (S.faults source.new) (IsErrOf result Stop.SourceFault) }
-    ensures long { IsErrOf result Stop.Long → 2 ^ 50 ≤ feed.new.taken }
+    ensures cause { HasCause (S.faults source.old) (S.faults source.new)
+        (IsErrOf result Stop.SourceFault) }
+    ensures long { IsErrOf result Stop.Long → feed_limit ≤ feed.new.taken }
     ensures counts { Counts feed.old (S.given source.old) feed.new (S.given source.new) }
 {
     loop {
@@ -125,19 +136,21 @@ pub(crate) fn take_piece<S: Source>(
     }
 }
 
-// Reads behind bytes that were judged, until those that wait are to be judged again. What comes in short reads is judged
-// when it may be whole, and else when it has grown to twice its length: so the bytes of a piece are gone through a few
-// times in all.
+// Reads behind bytes that were judged, until those that wait are to be judged again. What comes in
+// short reads is judged when it may be whole, and else when it has grown to twice its length: so
+// the bytes of a piece are gone through a few times in all.
 fn read_on<S: Source>(feed: &mut Feed, source: &mut S, piece: Piece) -> Result<(), Stop>
-    requires { length feed.old.pending < 16384 }
-    ensures bytes { Keeps (stream feed.old (S.left source.old)) (stream feed.new (S.left source.new)) }
+    requires { length feed.old.pending < head_limit }
+    ensures bytes { Keeps (stream feed.old (S.left source.old))
+        (stream feed.new (S.left source.new)) }
     ensures grows { OnOk result (length feed.old.pending < length feed.new.pending) }
     ensures kept { IsErrOf result Stop.Ended → feed.new ≡ feed.old }
     ensures ended { IsErrOf result Stop.Ended → IsAtEnd (S.left source.new) }
     ensures sound { ¬ (IsErrOf result Stop.Malformed) }
     ensures bounded { IsBounded feed.new }
-    ensures cause { HasCause (S.faults source.old) (S.faults source.new) (IsErrOf result Stop.SourceFault) }
-    ensures long { IsErrOf result Stop.Long → 2 ^ 50 ≤ feed.new.taken }
+    ensures cause { HasCause (S.faults source.old) (S.faults source.new)
+        (IsErrOf result Stop.SourceFault) }
+    ensures long { IsErrOf result Stop.Long → feed_limit ≤ feed.new.taken }
     ensures counts { Counts feed.old (S.given source.old) feed.new (S.given source.new) }
     ensures read_already { spent feed.new ≡ spent feed.old }
 {
@@ -153,7 +166,8 @@ fn read_on<S: Source>(feed: &mut Feed, source: &mut S, piece: Piece) -> Result<(
     }
 }
 
-// Whether bytes are to be judged again, of which the first ones were judged, and those behind `seen` have just come.
+// Whether bytes are to be judged again, of which the first ones were judged, and those behind
+// `seen` have just come.
 fn is_due(piece: Piece, bytes: &[u8], judged: usize, seen: usize) -> bool
     requires { seen ≤ length bytes.now }
     ensures { result ≡ false → length bytes.now < limit_of piece }
@@ -161,8 +175,8 @@ fn is_due(piece: Piece, bytes: &[u8], judged: usize, seen: usize) -> bool
     bytes.len() >= limit(piece) || bytes.len() / 2 >= judged || may_be_whole(piece, bytes, seen)
 }
 
-// Whether the last byte of the piece may be among those behind `seen`. A size that is none is told at its first wrong
-// byte.
+// Whether the last byte of the piece may be among those behind `seen`. A size that is none is told
+// at its first wrong byte.
 fn may_be_whole(piece: Piece, bytes: &[u8], seen: usize) -> bool
     requires { seen ≤ length bytes.now }
 {

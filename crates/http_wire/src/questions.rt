@@ -11,8 +11,8 @@ use crate::fields::{first, is_same};
 use crate::framed::{framing, number};
 use crate::{Field, Framing, Head};
 
-/// Whether the connection ends after this request: in HTTP/1.0, or by an element `close` of a Connection field (RFC 9110,
-/// section 7.6.1; RFC 9112, section 9.6).
+/// Whether the connection ends after this request: in HTTP/1.0, or by an element `close` of a
+/// Connection field (RFC 9110, section 7.6.1; RFC 9112, section 9.6).
 pub fn ends_connection(head: &Head) -> bool
     ensures { result ≡ spec.ends_connection head.now.minor (fields_of head.now) }
 {
@@ -20,13 +20,13 @@ pub fn ends_connection(head: &Head) -> bool
 }
 
 fn asks_to_close(fields: &[Field]) -> bool
-    ensures { result ≡ list_any (λ f. framings.is_same f.name (codes "connection") && spec.has_element (codes "close") f.value) fields.now }
+    ensures { result ≡ list_any (λ f. spec.closes f.name f.value) fields.now }
 {
     fields.iter().any(|field| closes(field))
 }
 
 fn closes(field: &Field) -> bool
-    ensures { result ≡ (framings.is_same field.now.name (codes "connection") && spec.has_element (codes "close") field.now.value) }
+    ensures { result ≡ spec.closes field.now.name field.now.value }
 {
     is_same(field.name.as_bytes(), b"connection") && has_element(field.value.as_slice(), b"close")
 }
@@ -89,8 +89,8 @@ fn first_text(bytes: &[u8]) -> Option<usize>
     bytes.iter().position(|b| !(*b == b' ' || *b == b'\t'))
 }
 
-/// Whether the request waits for `100 Continue` before it sends its body: in HTTP/1.1, where its first Expect field is
-/// `100-continue` and its body is not of length 0 (RFC 9110, section 10.1.1).
+/// Whether the request waits for `100 Continue` before it sends its body: in HTTP/1.1, where its
+/// first Expect field is `100-continue` and its body is not of length 0 (RFC 9110, section 10.1.1).
 pub fn expects_continue(head: &Head) -> bool
     ensures { result ≡ spec.expects_continue head.now.minor (fields_of head.now) }
 {
@@ -116,10 +116,13 @@ fn has_body(framing: Framing) -> bool
     }
 }
 
-/// The first Content-Type (RFC 9110, section 8.3), where there is one. One that is no UTF-8 counts as empty text.
+/// The first Content-Type (RFC 9110, section 8.3), where there is one. One that is no UTF-8 counts
+/// as empty text.
 pub fn content_type(head: &Head) -> Option<&str>
     ensures { MatchOption result (values_of (codes "content-type") (fields_of head.now) ≡ [])
-        (λ t. (v : List ℕ) × (rest : List (List ℕ)) × (values_of (codes "content-type") (fields_of head.now) ≡ v ∷ rest) × spec.IsTextOf v t.now) }
+        (λ t. (v : List ℕ) × (rest : List (List ℕ))
+        × (values_of (codes "content-type") (fields_of head.now) ≡ v ∷ rest)
+        × spec.IsTextOf v t.now) }
 {
     match first(&head.fields, b"content-type") {
         Some(value) => Some(text_of(value)),
@@ -136,8 +139,9 @@ fn text_of(value: &[u8]) -> &str
     }
 }
 
-/// The start of the first Content-Range, where that has the form `<start>-<end>`, each 1 to 18 decimal digits. The end is
-/// not compared (OCI Distribution Specification 1.1, "Pushing a blob in chunks").
+/// The start of the first Content-Range, where that has the form `<start>-<end>`, each 1 to 18
+/// decimal digits. The end is not compared (OCI Distribution Specification 1.1, "Pushing a blob in
+/// chunks").
 pub fn range_start(head: &Head) -> Option<u64>
     ensures { result ≡ spec.start_of (values_of (codes "content-range") (fields_of head.now)) }
 {

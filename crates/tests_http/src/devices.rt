@@ -1,4 +1,7 @@
 //! Sources and stages in memory.
+ghost use Rattle.std.specs.Prelude.{◌≡◌, [], IfOk};
+ghost use Rattle.depot_api.specs.MemStage.{stage_bytes};
+
 use depot_api::memory::{MemSource, MemStage};
 use depot_api::{Bytes, NoMemory, Path};
 use std::alloc::{AllocError, Global};
@@ -36,7 +39,9 @@ fn faults_of(alloc: Global, coming: Coming) -> Result<Vec<u64>, AllocError> {
 }
 
 /// An empty stage, the appends of which with these numbers fail.
-pub(crate) fn stage_with(alloc: Global, fail: Vec<u64>) -> Result<MemStage, Fail> {
+pub(crate) fn stage_with(alloc: Global, fail: Vec<u64>) -> Result<MemStage, Fail>
+    ensures { IfOk result (λ stage. stage_bytes stage ≡ []) }
+{
     match stage_path(alloc)? {
         Some(path) => Ok(MemStage::new(alloc, path, fail)),
         None => Err(Fail::from("no path")),

@@ -6,8 +6,9 @@ use std::test::Fail;
 
 const CHUNKS: &[u8] = b"2\r\nab\r\n3\r\ncde\r\n0\r\n\r\n";
 
-// How a stream comes, which append fails, what is staged then, how many bytes the next call stages, and all that is
-// staged. An append that fails puts all of its piece there but the last byte, and the piece still stands in the stream.
+// How a stream comes, which append fails, what is staged then, how many bytes the next call stages,
+// and all that is staged. An append that fails puts all of its piece there but the last byte, and
+// the piece still stands in the stream.
 const FAULTS: [(Coming, u64, &[u8], u64, &[u8]); 7] = [
     (Coming::Whole, 0, b"a", 5, b"aabcde"),
     (Coming::Whole, 1, b"abcd", 3, b"abcdcde"),

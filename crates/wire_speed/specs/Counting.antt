@@ -34,7 +34,8 @@ IsCounted way totals bytes =
 -- the bytes begin with a body of so many decoded bytes, and then the rest
 abbrev pub HasLength : Way → Framing → ℕ → List ℕ → List ℕ → Type 0
 HasLength way framing count bytes rest =
-    (body : List ℕ) × ReadsBody (limit_of way) (first_state framing) bytes body (within (ends_before rest)) × (length body ≡ count)
+    (body : List ℕ) × ReadsBody (limit_of way) (first_state framing) bytes body (within (ends_before rest))
+        × (length body ≡ count)
 
 -- what comes next: a message, or nothing more
 abbrev pub IsNextRequest : Way → Next → List ℕ → List ℕ → Type 0

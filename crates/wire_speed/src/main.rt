@@ -1,8 +1,8 @@
-//! Reads all requests of standard input, which a benchmark measures.
-//! It is given `read` or `stage`, and prints how many requests there are and how many bytes their bodies have: `read` decodes
-//! each body into a buffer, `stage` into a stage in memory. To compare, `copy` counts all bytes, and `input` only gets them.
-//! Where `requests` answers a count, that is of the messages of the stream, up to one that ends the connection.
-//! Whoever serves a registry reads requests so.
+//! Reads all requests of standard input, which a benchmark measures. It is given `read` or `stage`,
+//! and prints how many requests there are and how many bytes their bodies have: `read` decodes each
+//! body into a buffer, `stage` into a stage in memory. To compare, `copy` counts all bytes, and
+//! `input` only gets them. Where `requests` answers a count, that is of the messages of the stream,
+//! up to one that ends the connection. Whoever serves a registry reads requests so.
 #![tactic(auto)]
 
 ghost use Rattle.std.specs.Prelude.{◌≡◌, ◌+◌, ◌≤◌, IfSome};
@@ -122,7 +122,9 @@ fn requests<S: Source>(
     way: Way,
     buffer: &mut [u8],
 ) -> Option<Totals>
-    ensures messages { IfSome result (λ totals. OnStream (stream feed.old (S.left source.old)) (stream feed.new (S.left source.new))
+    ensures messages { IfSome result
+        (λ totals. OnStream (stream feed.old (S.left source.old))
+        (stream feed.new (S.left source.new))
         (λ old new. IsCounted way totals old)) }
 {
     let mut totals = Totals::NONE;
@@ -155,7 +157,8 @@ fn read_next<S: Source>(
     way: Way,
     buffer: &mut [u8],
 ) -> Option<Next>
-    ensures next { IfSome result (λ next. OnStream (stream feed.old (S.left source.old)) (stream feed.new (S.left source.new))
+    ensures next { IfSome result (λ next. OnStream (stream feed.old (S.left source.old))
+        (stream feed.new (S.left source.new))
         (IsNextRequest way next)) }
 {
     match read_head(alloc, feed, source) {
@@ -177,7 +180,8 @@ fn body_length<S: Source>(
     way: Way,
     buffer: &mut [u8],
 ) -> Option<u64>
-    ensures body { IfSome result (λ n. OnStream (stream feed.old (S.left source.old)) (stream feed.new (S.left source.new))
+    ensures body { IfSome result (λ n. OnStream (stream feed.old (S.left source.old))
+        (stream feed.new (S.left source.new))
         (HasLength way framing n)) }
 {
     match way {
@@ -193,7 +197,8 @@ fn body_read<S: Source>(
     framing: Framing,
     buffer: &mut [u8],
 ) -> Option<u64>
-    ensures body { IfSome result (λ n. OnStream (stream feed.old (S.left source.old)) (stream feed.new (S.left source.new))
+    ensures body { IfSome result (λ n. OnStream (stream feed.old (S.left source.old))
+        (stream feed.new (S.left source.new))
         (HasLength Way.Read framing n)) }
 {
     let mut body = BodyReader::new(framing);
@@ -215,7 +220,8 @@ fn body_staged<S: Source>(
     source: &mut S,
     framing: Framing,
 ) -> Option<u64>
-    ensures body { IfSome result (λ n. OnStream (stream feed.old (S.left source.old)) (stream feed.new (S.left source.new))
+    ensures body { IfSome result (λ n. OnStream (stream feed.old (S.left source.old))
+        (stream feed.new (S.left source.new))
         (HasLength Way.Stage framing n)) }
 {
     let path = Path::read(alloc, "stage").ok()??;

@@ -18,5 +18,5 @@ pub returns-in-Err : goal.returns-in-Err
 returns-in-Err c =
     let said = c.in-Err.ensures in (
       sym c.has_line.ensures ∙ c.if-not-has_line.false,
-      never_after_error c.args.bytes.now (length c.args.spans.now) c.in-Err.field-0 c.requires.few c.requires.room said.invalid (λ same. said.too_many (ap Err same)),
+      never_after_error c.args.bytes.now (length c.args.spans.now) c.in-Err.field-0 c.requires.few c.requires.spans said.invalid (λ same. said.too_many (ap Err same)),
     )

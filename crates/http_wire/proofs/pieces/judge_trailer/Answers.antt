@@ -23,4 +23,4 @@ returns-in-Ok-Partial c =
 pub returns-in-Err : goal.returns-in-Err
 returns-in-Err c =
     let said = c.in-Err.ensures in
-    trailer_bad c.args.bytes.now (length c.args.spans.now) c.in-Err.field-0 c.requires.few c.requires.room said.invalid (λ same. said.too_many (ap Err same))
+    trailer_bad c.args.bytes.now (length c.args.spans.now) c.in-Err.field-0 c.requires.few c.requires.spans said.invalid (λ same. said.too_many (ap Err same))
