@@ -1,9 +1,8 @@
-//! Reads cases, one a line, and writes each with its answer: what `http_wire` makes of a stream of
-//! bytes. `stream` reads requests, `request` a single one, `asks` what a head asks for, and `stage`
-//! puts a body into a stage. `let L TEXT` gives a capital letter a text. In a text, `\L` stands for
-//! that of the letter, `\9L` for nine times that, `\r` and `\n` for CR and LF, and `\xNN` for a
-//! byte. Other lines are written as they are. The answers in `stdout` are those of RFC 9110 and RFC
-//! 9112, written by hand.
+//! Reads cases, one a line, and writes each with its answer, which is that of RFC 9110 and 9112.
+//! `stream` reads requests, `request` one, `asks` what a head asks for, and `stage` stages a body.
+//! `let L TEXT` gives a capital letter a text. In a text, `\L` stands for that of the letter, `\9L`
+//! for nine times that, `\r`, `\n` and `\xNN` for bytes. Other lines are written as they are.
+//! The answers in `stdout` are written by hand; whoever changes `http_wire` adds a line here.
 #![tactic(auto)]
 
 mod coming;

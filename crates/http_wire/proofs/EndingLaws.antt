@@ -147,8 +147,8 @@ runs_less state bytes decoded outcome rest is (goes _ _ _ _ next first behind mo
 
 -- ---- a body of which so many bytes may come
 
-abbrev Reads_body : Option ℕ → BodyState → List ℕ → Type 0
-Reads_body limit state bytes = (decoded : List ℕ) × (filling : Filling) × ReadsBody limit state bytes decoded filling
+abbrev HasReading : Option ℕ → BodyState → List ℕ → Type 0
+HasReading limit state bytes = (decoded : List ℕ) × (filling : Filling) × ReadsBody limit state bytes decoded filling
 
 filling_of : (most : ℕ) (state : BodyState) (bytes decoded : List ℕ) (outcome : Outcome) → Runs state bytes decoded outcome → (given : List ℕ) × (filling : Filling) × Fills most state bytes given filling
 filling_of most state bytes decoded outcome (stops _ _ _ _ x) = elim (cases_lt most (due state)) [
@@ -162,7 +162,7 @@ filling_of most state bytes decoded outcome (goes _ _ _ _ next first rest more x
       (first ++ given, filling, goes_within most state bytes (first ++ given) filling next first rest given few x refl fills)
 ]
 
-body_reads : (limit : Option ℕ) (state : BodyState) (bytes : List ℕ) → Reads_body limit state bytes
+body_reads : (limit : Option ℕ) (state : BodyState) (bytes : List ℕ) → HasReading limit state bytes
 body_reads (Some most) state bytes =
     let (decoded, outcome, run) = body_ends state bytes in
     filling_of most state bytes decoded outcome run
@@ -191,7 +191,7 @@ abbrev AllHaveMessages : ℕ → Type 0
 AllHaveMessages n = (limits : Limits) (bytes : List ℕ) → length bytes < n → HasMessages limits bytes
 
 body_then : (n : ℕ) (limits : Limits) (bytes : List ℕ) (h : RequestHead) (behind : List ℕ) → AllHaveMessages n → length bytes < suc n → Holds bytes (begins h behind)
-    → Reads_body (limits 0 h) (body_start h) behind → HasMessages limits bytes
+    → HasReading (limits 0 h) (body_start h) behind → HasMessages limits bytes
 body_then n limits bytes h behind others few x (decoded, within (ends_before rest), run) =
     let head : 0 < length (print_request h) = head_is_some bytes h behind x.0.0 in
     let less : length rest ≤ length behind = reads_less (limits 0 h) (body_start h) behind decoded rest run in

@@ -19,7 +19,7 @@ use Rattle.http_wire.specs.Fields.{Shows}
 use Rattle.http_wire.specs.Filling.{Filling, within, is_too_long, Fills, Gains, TakesBody, IsTakingEnd, KeepsLimit}
 use Rattle.http_wire.specs.Framing.{framing_by}
 use Rattle.http_wire.specs.Messages.{Message, body_start, is_last, Limits, behind_first, ReadsBody, HasBody, ReadsMessage, Ending, HasNoMessage, Messages}
-use Rattle.http_wire.specs.Reading.{body_behind, Decodes, decodes_none, decodes_more, IsRead, ReadsMessages, behind, HeadEnds, StepEnds, TakingEnds}
+use Rattle.http_wire.specs.Reading.{body_behind, Decodes, decodes_none, decodes_more, IsRead, ReadsMessages, behind_all, HeadEnds, StepEnds, TakingEnds}
 use Rattle.http_wire.proofs.FillingLaws.{takes_end, takes_too_much}
 use Rattle.http_wire.proofs.MovingLaws.{adds_up}
 
@@ -143,7 +143,7 @@ head_end limits headings.NoMemory old new ending tells e = absurd e
 -- ---- many messages
 
 pub messages_then : (limits : Limits) (bytes : List ℕ) (messages : List Message) (rest : List ℕ) (more : List Message) (ending : Ending) → ReadsMessages limits bytes messages rest
-    → Messages (behind (length messages) limits) rest more ending → Messages limits bytes (messages ++ more) ending
+    → Messages (behind_all (length messages) limits) rest more ending → Messages limits bytes (messages ++ more) ending
 messages_then limits bytes [] rest more ending same then =
     let e : (n : ℕ) → 0 + n ≡ n = λ n. omega arith in
     subst (λ (b : List ℕ). Messages limits b more ending) same (subst (λ (l : Limits). Messages l rest more ending) (λ i n. limits (e n i)) then)

@@ -39,8 +39,8 @@ ReadsMessages limits bytes (m ∷ messages) rest =
     × ReadsMessages (behind_first limits) behind messages rest
 
 -- the limits of the requests behind so many
-abbrev pub behind : ℕ → Limits → Limits
-behind count limits number = limits (count + number)
+abbrev pub behind_all : ℕ → Limits → Limits
+behind_all count limits number = limits (count + number)
 
 -- how the messages end where no head was read
 abbrev pub HeadEnds : Heading → Ending → Type 0

@@ -1,9 +1,8 @@
-//! HTTP/1.1 requests, read from a stream of bytes exactly, however the stream is cut. `read_head`
-//! reads a head, `framing` says where its body ends, `read_body` reads the decoded body, and
-//! `take_body` stages it. Each answer is proved to be what the bytes are, and no two answers fit
-//! one stream: each stream has one list of messages. A session reads its requests with these calls,
-//! over any source of bytes. Nothing but a head and a stage takes memory. The rules are those of
-//! RFC 9112, sections 2 to 7, and of RFC 9110 for the fields.
+//! HTTP/1.1 requests, read from a stream of bytes exactly, however it is cut (RFC 9112 and RFC 9110).
+//! `read_head` reads a head, `framing` says where its body ends, `read_body` reads the decoded body,
+//! and `take_body` stages it. Each answer is proved to be what the bytes are, over any source of
+//! bytes, and each stream has one list of messages. The source is read only where what came before
+//! is not enough. A session reads its requests so; nothing but a head and a stage takes memory.
 #![tactic(auto)]
 
 mod body;

@@ -75,5 +75,6 @@ fn ended(bytes: &[u8]) -> Heading
 
 /// A law: one answer at most holds of a stream, and a head is one.
 pub fn heads_are_exact()
-    ensures { (bytes : List ℕ) (one other : Verdict) → Holds bytes one → Holds bytes other → one ≡ other }
+    ensures { (bytes : List ℕ) (one other : Verdict) → Holds bytes one → Holds bytes other
+        → one ≡ other }
 {}

@@ -87,18 +87,22 @@ fn read_data<S: Source>(
     ensures counts { Counts feed.old (S.given source.old) feed.new (S.given source.new) }
 {
     feed.wait(source)?;
-    let room = (into.len() as u64).min(left) as usize;
-    Ok(feed.copy_to(&mut into[..room]))
+    let most = (into.len() as u64).min(left) as usize;
+    Ok(feed.copy_to(&mut into[..most]))
 }
 
 /// A law: what `read_body` gave on its way, and then what is made of the rest, is what is made of
 /// the whole.
 pub fn reads_add_up()
-    ensures { (old new : BodyReader) (bytes given rest decoded : List ℕ) (outcome : Outcome) → Moves (state_of old) bytes given (state_of new) rest
-        → Runs (state_of new) rest decoded outcome → Runs (state_of old) bytes (given ++ decoded) outcome }
+    ensures { (old new : BodyReader) (bytes given rest decoded : List ℕ) (outcome : Outcome)
+        → Moves (state_of old) bytes given (state_of new) rest
+        → Runs (state_of new) rest decoded outcome
+        → Runs (state_of old) bytes (given ++ decoded) outcome }
 {}
 
 /// A law: one decoded body at most is read from where a reader stands, and it ends in one way.
 pub fn bodies_are_exact()
-    ensures { (reader : BodyReader) (bytes one other : List ℕ) (end last : Outcome) → Runs (state_of reader) bytes one end → Runs (state_of reader) bytes other last → (one ≡ other) × (end ≡ last) }
+    ensures { (reader : BodyReader) (bytes one other : List ℕ) (end last : Outcome)
+        → Runs (state_of reader) bytes one end → Runs (state_of reader) bytes other last
+        → (one ≡ other) × (end ≡ last) }
 {}

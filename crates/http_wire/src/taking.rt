@@ -153,7 +153,8 @@ fn put_waiting<T: Stage>(feed: &mut Feed, left: u64, stage: &mut T) -> Result<u6
 
 /// A law: a body of which so many bytes may come is taken in one way.
 pub fn limits_are_exact()
-    ensures { (most : ℕ) (reader : BodyReader) (bytes one other : List ℕ) (end last : Filling) → Fills most (state_of reader) bytes one end
+    ensures { (most : ℕ) (reader : BodyReader) (bytes one other : List ℕ) (end last : Filling)
+        → Fills most (state_of reader) bytes one end
         → Fills most (state_of reader) bytes other last → (one ≡ other) × (end ≡ last) }
 {}
 
@@ -161,12 +162,16 @@ pub fn limits_are_exact()
 /// and a front of it of at most so many bytes is taken; and what is taken is the body that
 /// `read_body` reads.
 pub fn limits_count_decoded_bytes()
-    ensures fits { (most : ℕ) (reader : BodyReader) (bytes body rest : List ℕ) → Runs (state_of reader) bytes body (ends_before rest)
+    ensures fits { (most : ℕ) (reader : BodyReader) (bytes body rest : List ℕ)
+        → Runs (state_of reader) bytes body (ends_before rest)
         → length body ≤ most → Fills most (state_of reader) bytes body (within (ends_before rest)) }
-    ensures passes { (most : ℕ) (reader : BodyReader) (bytes body rest : List ℕ) → Runs (state_of reader) bytes body (ends_before rest)
-        → most < length body → (begin : List ℕ) × (more : List ℕ) × (body ≡ begin ++ more) × (length begin ≤ most)
+    ensures passes { (most : ℕ) (reader : BodyReader) (bytes body rest : List ℕ)
+        → Runs (state_of reader) bytes body (ends_before rest)
+        → most < length body → (begin : List ℕ) × (more : List ℕ) × (body ≡ begin ++ more)
+        × (length begin ≤ most)
         × Fills most (state_of reader) bytes begin is_too_long }
-    ensures same { (most : ℕ) (reader : BodyReader) (bytes body : List ℕ) (outcome : Outcome) → Fills most (state_of reader) bytes body (within outcome)
+    ensures same { (most : ℕ) (reader : BodyReader) (bytes body : List ℕ) (outcome : Outcome)
+        → Fills most (state_of reader) bytes body (within outcome)
         → Runs (state_of reader) bytes body outcome }
 {}
 
@@ -174,13 +179,19 @@ pub fn limits_count_decoded_bytes()
 /// body, and where an answer says how the body ended, or that it is too long, that is so of the
 /// whole.
 pub fn takings_add_up()
-    ensures goes_on { (most : ℕ) (reader moved : BodyReader) (bytes given rest decoded : List ℕ) (filling : Filling)
-        → FillsOn most (state_of reader) bytes given (state_of moved) rest → Fills (most - length given) (state_of moved) rest decoded filling
+    ensures goes_on { (most : ℕ) (reader moved : BodyReader) (bytes given rest decoded : List ℕ)
+        (filling : Filling)
+        → FillsOn most (state_of reader) bytes given (state_of moved) rest
+        → Fills (most - length given) (state_of moved) rest decoded filling
         → Fills most (state_of reader) bytes (given ++ decoded) filling }
-    ensures ends { (most : ℕ) (reader moved : BodyReader) (bytes given rest : List ℕ) (outcome : Outcome)
-        → FillsOn most (state_of reader) bytes given (state_of moved) rest → due (state_of moved) ≤ most - length given
-        → Stops (state_of moved) rest [] outcome → Fills most (state_of reader) bytes given (within outcome) }
+    ensures ends { (most : ℕ) (reader moved : BodyReader) (bytes given rest : List ℕ)
+        (outcome : Outcome)
+        → FillsOn most (state_of reader) bytes given (state_of moved) rest
+        → due (state_of moved) ≤ most - length given
+        → Stops (state_of moved) rest [] outcome
+        → Fills most (state_of reader) bytes given (within outcome) }
     ensures is_long { (most : ℕ) (reader moved : BodyReader) (bytes given rest : List ℕ)
-        → FillsOn most (state_of reader) bytes given (state_of moved) rest → most - length given < due (state_of moved)
+        → FillsOn most (state_of reader) bytes given (state_of moved) rest
+        → most - length given < due (state_of moved)
         → Fills most (state_of reader) bytes given is_too_long }
 {}

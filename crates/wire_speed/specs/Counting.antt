@@ -35,7 +35,7 @@ IsCounted way totals bytes =
 abbrev pub HasLength : Way → Framing → ℕ → List ℕ → List ℕ → Type 0
 HasLength way framing count bytes rest =
     (body : List ℕ) × ReadsBody (limit_of way) (first_state framing) bytes body (within (ends_before rest))
-        × (length body ≡ count)
+    × (length body ≡ count)
 
 -- what comes next: a message, or nothing more
 abbrev pub IsNextRequest : Way → Next → List ℕ → List ℕ → Type 0
