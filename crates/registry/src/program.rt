@@ -6,13 +6,17 @@ use crate::status::Status;
 use crate::words::{self, USAGE};
 use depot_files::FileDepot;
 use std::alloc::Global;
-use std::env;
 use std::io::{self, ErrorKind};
+use std::os::fd::AsRawFd;
 use std::random::RandomSource;
-use std::rt::Runtime;
+use std::rt::{Files, Runtime};
+use std::{env, fs};
 
 /// Runs the program, and gives its exit status.
-pub fn run<R: Runtime + AllocGlobal + RandomSource>(rt: &R) -> u8 {
+pub fn run<R: Runtime + AllocGlobal + RandomSource>(rt: &R) -> u8
+where
+    R::File: AsRawFd,
+{
     match words_of(rt) {
         Ok(words) => match words::root(&words) {
             Some(root) => over_directory(rt, &words, root),
@@ -44,23 +48,12 @@ fn over_directory<R: Runtime + AllocGlobal + RandomSource>(
     rt: &R,
     words: &[String],
     root: &str,
-) -> u8 {
-    match FileDepot::open(rt, root) {
-        Ok(depot) => {
-            let mut input = ReaderSource::new(rt.reader());
-            let mut out = WriterSink::new(io::writer(rt));
-            let Ran { status, .. } = run_plain(
-                rt.alloc(),
-                words,
-                depot,
-                (),
-                &mut SystemClock { rt },
-                &mut SystemIds { rt },
-                &mut input,
-                &mut out,
-            );
-            status
-        }
+) -> u8
+where
+    R::File: AsRawFd,
+{
+    match open_behind_streams(rt, root) {
+        Ok((_streams, depot)) => over_depot(rt, words, depot),
         Err(error) if error.kind() == ErrorKind::OutOfMemory => tell(
             rt,
             NO_MEMORY,
@@ -69,6 +62,59 @@ fn over_directory<R: Runtime + AllocGlobal + RandomSource>(
         Err(_) => tell(rt, DEVICE_FAULT, Status::Fault),
     }
 }
+
+fn over_depot<R: Runtime + AllocGlobal + RandomSource>(
+    rt: &R,
+    words: &[String],
+    depot: FileDepot<&R>,
+) -> u8 {
+    let mut input = ReaderSource::new(rt.reader());
+    let mut out = WriterSink::new(io::writer(rt));
+    let Ran { status, .. } = run_plain(
+        rt.alloc(),
+        words,
+        depot,
+        (),
+        &mut SystemClock { rt },
+        &mut SystemIds { rt },
+        &mut input,
+        &mut out,
+    );
+    status
+}
+
+// The depot of a directory, and what holds the descriptors of the standard streams for it.
+fn open_behind_streams<'a, R: Files + AllocGlobal>(
+    rt: &'a R,
+    root: &str,
+) -> io::Result<(Vec<R::File>, FileDepot<&'a R>)>
+where
+    R::File: AsRawFd,
+{
+    let streams = hold_streams(rt)?;
+    Ok((streams, FileDepot::open(rt, root)?))
+}
+
+// Holds those of the descriptors 0 to 2 that are closed, so that no file of the depot gets one: what
+// is written to standard output would go there. A folder gives no bytes and takes none, so that the
+// stream still fails.
+fn hold_streams<R: Files + AllocGlobal>(rt: &R) -> io::Result<Vec<R::File>>
+where
+    R::File: AsRawFd,
+{
+    let mut held = Vec::new(rt.alloc());
+    for _ in 0..3 {
+        let folder = fs::open(rt, "/")?;
+        if folder.as_raw_fd() > LAST_STREAM {
+            break;
+        }
+        held.push(folder)?;
+    }
+    Ok(held)
+}
+
+// The descriptor of standard error.
+const LAST_STREAM: i32 = 2;
 
 // Writes a line, and gives the exit status of a run that ends with it.
 fn tell(rt: &impl Print, line: &str, status: Status) -> u8 {
