@@ -110,8 +110,8 @@ impl<R: Files + AllocGlobal> Root<R> {
         }
     }
 
-    /// What lies at the path of a text, where the folders above it are there. Where a file is likely,
-    /// it is looked for first.
+    /// What lies at the path of a text, where the folders above it are there. Where a file is
+    /// likely, it is looked for first.
     pub fn entry(
         &mut self,
         alloc: Global,

@@ -13,4 +13,5 @@ count_limit = 2 ^ 64 - 1
 
 -- the number of the files, or the greatest number where there are more
 abbrev pub CountsUnder : List (List ℕ) → Files → ℕ → Type 0
-CountsUnder under files n = (paths : List (List (List ℕ))) × AreAll files under paths × (n ≡ min (length paths) count_limit)
+CountsUnder under files n =
+    (paths : List (List (List ℕ))) × AreAll files under paths × (n ≡ min (length paths) count_limit)

@@ -11,7 +11,7 @@ fn an_early_end_is_a_fault(rt: HostRuntime) -> Result<(), Fail> {
     remove(&rt, "ends")
 }
 
-// Whether a blob of five bytes that is cut to two gives those, and then fails, so that the depot does.
+// Whether a blob of five bytes that is cut to two gives those and then fails, which the depot counts.
 fn ends_early(rt: &HostRuntime, root: &str, at: &str) -> Result<bool, Fail> {
     let path = path(rt.alloc(), at)?;
     let mut depot = FileDepot::open(rt, root)?;
