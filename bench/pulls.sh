@@ -158,6 +158,12 @@ awk -v n="$tenth" -v all="$tags" -v s="$short" -v l="$long" -v m="$moved" 'BEGIN
     printf "tags that have pointed to ten manifests: %.1f us a tag of %d\n", m / n, n
 }'
 
+for depot in bare all; do
+    calls=$(system_calls "$program" once --root "$work/$depot" < "$work/list-tags") || fail "no system calls were counted"
+    [ -z "$calls" ] || awk -v d="$depot" -v n="$tags" -v c="$calls" \
+        'BEGIN { printf "%.1f system calls a tag of %d %s\n", c / n, n, d == "bare" ? "without index folders" : "with one each" }'
+done
+
 # Prints how long a list takes, and its ratio to one of a single tag.
 beside_one() {
     local list one
@@ -170,9 +176,3 @@ beside_one() {
 }
 beside_one ten one-of-ten "$tags tags on ten manifests"
 beside_one large one-large "100 tags on one manifest of 4 MB"
-
-for depot in bare all; do
-    calls=$(system_calls once "$depot" list-tags) || fail "no system calls were counted"
-    [ -z "$calls" ] || awk -v d="$depot" -v n="$tags" -v c="$calls" \
-        'BEGIN { printf "%.1f system calls a tag of %d %s\n", c / n, n, d == "bare" ? "without index folders" : "with one each" }'
-done
