@@ -38,26 +38,16 @@ returns-in-Ok-eq0-clause-moved g c =
 
 pub returns-in-Ok-eq0-clause-known : goal.returns-in-Ok-eq0-clause-known
 returns-in-Ok-eq0-clause-known g c =
-    let S = g.S.Source.left in
-    let T = g.T.Stage in
     let w = c.loop-left in
     let r = c.reach_data.new in
-    let a = stream c.args.feed.now (S c.args.source.now) in
-    let b = stream w.feed (S w.source) in
-    let m = stream r.feed (S r.source) in
     let first = c.args.body.now.state in
     known_whole c.args.most w.room (c.args.most - w.room) c.in-Ok-eq0.field-0 first w.body.state r.body.state (omega (arith, w.invariant.1))
     (sym c.in-Ok-eq0.field-0-is ∙ c.in-Ok-eq0.field-0-test) w.invariant.9 c.in-Ok-eq0.ensures.known
 
 pub returns-in-Ok-eq0-clause-at_hand : goal.returns-in-Ok-eq0-clause-at_hand
 returns-in-Ok-eq0-clause-at_hand g c =
-    let S = g.S.Source.left in
-    let T = g.T.Stage in
     let w = c.loop-left in
     let r = c.reach_data.new in
-    let a = stream c.args.feed.now (S c.args.source.now) in
-    let b = stream w.feed (S w.source) in
-    let m = stream r.feed (S r.source) in
     let first = c.args.body.now.state in
     body_hand_read c.args.source.now r.source c.args.most w.room first r.body.state c.args.feed.now.pending r.feed.pending
     (body_hand_over c.args.source.now w.source r.source c.args.most w.room first w.body.state r.body.state c.args.feed.now.pending w.feed.pending r.feed.pending w.invariant.7 c.reach_data.ensures.at_hand)
@@ -76,38 +66,23 @@ returns-in-Ok-clause-moved g c =
 
 pub returns-in-Ok-clause-at_hand : goal.returns-in-Ok-clause-at_hand
 returns-in-Ok-clause-at_hand g c =
-    let S = g.S.Source.left in
-    let T = g.T.Stage in
     let w = c.loop-left in
     let r = c.reach_data.new in
-    let a = stream c.args.feed.now (S c.args.source.now) in
-    let b = stream w.feed (S w.source) in
-    let m = stream r.feed (S r.source) in
     let first = c.args.body.now.state in
     body_hand_read c.args.source.now r.source c.args.most w.room first r.body.state c.args.feed.now.pending r.feed.pending
     (body_hand_over c.args.source.now w.source r.source c.args.most w.room first w.body.state r.body.state c.args.feed.now.pending w.feed.pending r.feed.pending w.invariant.7 c.reach_data.ensures.at_hand)
 
 pub returns-in-Ok-clause-known : goal.returns-in-Ok-clause-known
 returns-in-Ok-clause-known g c =
-    let S = g.S.Source.left in
-    let T = g.T.Stage in
     let w = c.loop-left in
     let r = c.reach_data.new in
-    let a = stream c.args.feed.now (S c.args.source.now) in
-    let b = stream w.feed (S w.source) in
-    let m = stream r.feed (S r.source) in
     let first = c.args.body.now.state in
     known_long c.args.most w.room first r.body.state (leaves_reached c.args.most w.room first w.body.state r.body.state c.reach_data.result w.invariant.9 c.reach_data.ensures.known) (omega (arith, c.if-left-room.true, c.in-Ok.ensures.left))
 
 pub returns-in-Err-clause-at_hand : goal.returns-in-Err-clause-at_hand
 returns-in-Err-clause-at_hand g c =
-    let S = g.S.Source.left in
-    let T = g.T.Stage in
     let w = c.loop-left in
     let r = c.reach_data.new in
-    let a = stream c.args.feed.now (S c.args.source.now) in
-    let b = stream w.feed (S w.source) in
-    let m = stream r.feed (S r.source) in
     let first = c.args.body.now.state in
     body_hand_read c.args.source.now r.source c.args.most w.room first r.body.state c.args.feed.now.pending r.feed.pending
     (body_hand_over c.args.source.now w.source r.source c.args.most w.room first w.body.state r.body.state c.args.feed.now.pending w.feed.pending r.feed.pending w.invariant.7 c.reach_data.ensures.at_hand)
@@ -164,8 +139,6 @@ returns-in-Err-put_data-clause-moved g c =
     let left = c.in-Ok.left in
     let reached = reached_on c.args.most w.room first w.body.state r.body.state (T.held c.args.stage.now) (T.held w.stage) a b m w.invariant.0 c.reach_data.ensures.moved in
     let is : due r.body.state ≡ left = c.in-Ok.ensures.left in
-    let some : 0 < due r.body.state = grind (arith, c.in-Ok.left-test, is) in
-    let fits : due r.body.state ≤ w.room = omega (arith, is, c.if-left-room.false) in
     put_none c.args.most w.room left first r.body.state (T.held c.args.stage.now) (T.held w.stage) (T.held p.stage) w.invariant.3.tells a m d reached c.in-Err-put_data.answer
     c.in-Err-put_data.ensures.inside is c.in-Err-put_data.ensures.bytes
 
@@ -185,24 +158,15 @@ returns-in-Err-put_data-clause-ended g c =
     let reached = reached_on c.args.most w.room first w.body.state r.body.state (T.held c.args.stage.now) (T.held w.stage) a b m w.invariant.0 c.reach_data.ensures.moved in
     let is : due r.body.state ≡ left = c.in-Ok.ensures.left in
     let some : 0 < due r.body.state = grind (arith, c.in-Ok.left-test, is) in
-    let fits : due r.body.state ≤ w.room = omega (arith, is, c.if-left-room.false) in
     put_end c.args.most w.room left first r.body.state (T.held c.args.stage.now) (T.held w.stage) (T.held p.stage) w.invariant.3.tells a m d reached c.in-Err-put_data.answer
     c.in-Err-put_data.ensures.inside some c.in-Err-put_data.ensures.bytes
 
 pub returns-in-Err-put_data-clause-known : goal.returns-in-Err-put_data-clause-known
 returns-in-Err-put_data-clause-known g c =
-    let S = g.S.Source.left in
-    let T = g.T.Stage in
     let w = c.loop-left in
     let r = c.reach_data.new in
-    let a = stream c.args.feed.now (S c.args.source.now) in
-    let b = stream w.feed (S w.source) in
-    let m = stream r.feed (S r.source) in
     let first = c.args.body.now.state in
-    let p = c.put_data.new in
-    let d = stream p.feed (S p.source) in
     let left = c.in-Ok.left in
-    let reached = reached_on c.args.most w.room first w.body.state r.body.state (T.held c.args.stage.now) (T.held w.stage) a b m w.invariant.0 c.reach_data.ensures.moved in
     let is : due r.body.state ≡ left = c.in-Ok.ensures.left in
     let some : 0 < due r.body.state = grind (arith, c.in-Ok.left-test, is) in
     let fits : due r.body.state ≤ w.room = omega (arith, is, c.if-left-room.false) in
@@ -210,18 +174,11 @@ returns-in-Err-put_data-clause-known g c =
 
 pub returns-in-Err-put_data-clause-at_hand : goal.returns-in-Err-put_data-clause-at_hand
 returns-in-Err-put_data-clause-at_hand g c =
-    let S = g.S.Source.left in
-    let T = g.T.Stage in
     let w = c.loop-left in
     let r = c.reach_data.new in
-    let a = stream c.args.feed.now (S c.args.source.now) in
-    let b = stream w.feed (S w.source) in
-    let m = stream r.feed (S r.source) in
     let first = c.args.body.now.state in
     let p = c.put_data.new in
-    let d = stream p.feed (S p.source) in
     let left = c.in-Ok.left in
-    let reached = reached_on c.args.most w.room first w.body.state r.body.state (T.held c.args.stage.now) (T.held w.stage) a b m w.invariant.0 c.reach_data.ensures.moved in
     let is : due r.body.state ≡ left = c.in-Ok.ensures.left in
     let some : 0 < due r.body.state = grind (arith, c.in-Ok.left-test, is) in
     let fits : due r.body.state ≤ w.room = omega (arith, is, c.if-left-room.false) in
