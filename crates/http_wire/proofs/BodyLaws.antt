@@ -102,10 +102,6 @@ advances_by state bytes next rest x decoded outcome run = goes state bytes decod
 pub advances_then : (a b c : BodyState) (s t u given : List ℕ) → Advances a s [] b t → Advances b t given c u → Advances a s given c u
 advances_then a b c s t u given x y decoded outcome run = x (given ++ decoded) outcome (y decoded outcome run)
 
--- the same state over the same bytes
-pub advances_none : (state : BodyState) (bytes : List ℕ) → Advances state bytes [] state bytes
-advances_none state bytes decoded outcome run = run
-
 -- ---- data that comes in parts
 
 pub no_bytes : (bytes : List ℕ) → length bytes ≤ 0 → bytes ≡ []

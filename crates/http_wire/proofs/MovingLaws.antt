@@ -1,18 +1,16 @@
 -- A reader of a body over a stream, from call to call.
-use Rattle.std.proofs.Common.{◌≡◌, ℕ, ◌<◌, ◌≤◌, ◌⊎◌, List, [], take, length, length-take-le, refl, sym, ap, subst, ◌∙◌, arith, inl, inr, Option, Some, None, Ok, Err}
-use Rattle.std.specs.Prelude.{Result, IfOk, ⊤}
+use Rattle.std.proofs.Common.{◌≡◌, ℕ, ◌<◌, ◌⊎◌, List, [], take, length, refl, sym, ap, subst, ◌∙◌, arith, inl, inr, Option, Some, None, Ok, Err}
+use Rattle.std.specs.Prelude.{Result, ⊤}
 use Rattle.http_wire.specs.declared.body.BodyState.{BodyState}
 use Rattle.http_wire.specs.declared.body.BodyState.TheVariants as states
 use Rattle.http_wire.specs.declared.body.Piece.{Piece}
 use Rattle.http_wire.specs.declared.body.Piece.TheVariants as pieces
-use Rattle.http_wire.specs.declared.body.BodyStep.{BodyStep}
-use Rattle.http_wire.specs.declared.body.BodyStep.TheVariants as steps
 use Rattle.http_wire.specs.declared.stop.Stop.{Stop}
 use Rattle.http_wire.specs.declared.stop.Stop.TheVariants as stopped
-use Rattle.http_wire.specs.Bodies.{is_cut_short, is_malformed, ends_before, Goes, Stops, due, less, Skips, stays, skips, Moves, IsCutAt, Runs, stops, Passes}
-use Rattle.http_wire.specs.BodyAnswers.{given, count_of, IsStepEnd, IsOfData, CanStep, GivesNone}
+use Rattle.http_wire.specs.Bodies.{is_cut_short, Goes, Stops, due, less, Skips, stays, skips, Moves, IsCutAt, Runs, stops, Passes}
+use Rattle.http_wire.specs.BodyAnswers.{given, count_of, IsStepEnd, IsOfData, GivesNone}
 use Rattle.http_wire.specs.InnerPieces.{TakesPiece, IsAfter}
-use Rattle.http_wire.specs.InnerReaching.{step_of, CanReach, IsStopAt, IsReachEnd, EndsInPiece, GivesData}
+use Rattle.http_wire.specs.InnerReaching.{step_of, IsStopAt, EndsInPiece, GivesData}
 use Rattle.http_wire.specs.Flow.{Flow, OnStream, Counts}
 use Rattle.http_wire.proofs.BodyLaws.{Advances, advances_over, advances_then, advances_in}
 use Rattle.http_wire.proofs.TakingLaws.{less_none, cut_in}
@@ -46,18 +44,6 @@ Stands states.Refused what = what ≡ Err stopped.Malformed
 
 stands_at : (now at : BodyState) (what : Result ℕ Stop) → now ≡ at → Stands now what → Stands at what
 stands_at now at what is stands = subst (λ (s : BodyState). Stands s what) is stands
-
-pub come_to : (first now : BodyState) (what : Result ℕ Stop) → Follows first now → Stands now what → CanReach first what now
-come_to (states.Fixed n) now what (inl is) stands = let found = stands_at now (states.Fixed n) what is stands in (found.1, inl (is, found.0))
-come_to (states.Fixed n) now what (inr (none, is)) stands = (stands_at now states.Done what is stands ∙ ap Ok (sym none), inr (none, is))
-come_to (states.Data n) now what (inl is) stands = λ some. ((stands_at now (states.Data n) what is stands).1, is)
-come_to (states.Data n) now what (inr none) stands = λ some. absurd (omega (arith, some, none))
-come_to (states.Before pieces.Gap) now what follows stands = tt
-come_to (states.Before pieces.Line) now what follows stands = tt
-come_to (states.Before pieces.Trailer) now what (inl is) stands = let found = stands_at now (states.Before pieces.Trailer) what is stands in subst (λ (w : Result ℕ Stop). IfOk w (λ left. left ≡ 0)) (sym found.1) tt
-come_to (states.Before pieces.Trailer) now what (inr is) stands = subst (λ (w : Result ℕ Stop). IfOk w (λ left. left ≡ 0)) (sym (stands_at now states.Done what is stands)) refl
-come_to states.Done now what is stands = (stands_at now states.Done what is stands, is)
-come_to states.Refused now what is stands = (stands_at now states.Refused what is stands, is)
 
 pub follows_none : (first : BodyState) → Follows first first
 follows_none (states.Fixed n) = inl refl
@@ -109,41 +95,11 @@ follows_piece states.Refused now piece next is at after = absurd cc
 fixed_left : (n left : ℕ) → ◌≡◌ {A = Result ℕ Stop} (Ok left) (Ok n) → left ≡ n
 fixed_left n left e = cc
 
--- inside data that the reader came to
-pub can_step : (first next : BodyState) (left : ℕ) (step : BodyStep) → 0 < left → CanReach first (Ok left) next → IsOfData left step → CanStep first step
-can_step (states.Fixed n) next left step some (same, is) of_data =
-    let e = fixed_left n left same in
-    (λ none. absurd (omega (arith, some, e, none)), λ more. subst (λ (k : ℕ). IsOfData k step) e of_data)
-can_step (states.Data n) next left step some x of_data = λ more. subst (λ (k : ℕ). IsOfData k step) (fixed_left n left (x more).0) of_data
-can_step (states.Before pieces.Gap) next left step some x of_data = tt
-can_step (states.Before pieces.Line) next left step some x of_data = tt
-can_step (states.Before pieces.Trailer) next left step some x of_data = absurd (omega (arith, some, x))
-can_step states.Done next left step some (end, is) of_data = absurd (omega (arith, some, fixed_left 0 left end))
-can_step states.Refused next left step some (bad, is) of_data = absurd cc
-
-pub can_end : (first next : BodyState) → CanReach first (Ok 0) next → CanStep first steps.End
-can_end (states.Fixed n) next (same, is) = (λ none. refl, λ more. absurd (omega (arith, more, fixed_left n 0 same)))
-can_end (states.Data n) next x = λ more. absurd (omega (arith, more, fixed_left n 0 (x more).0))
-can_end (states.Before pieces.Gap) next x = tt
-can_end (states.Before pieces.Line) next x = tt
-can_end (states.Before pieces.Trailer) next x = tt
-can_end states.Done next x = refl
-can_end states.Refused next (bad, is) = absurd cc
-
 no_data : (stop : Stop) → GivesNone (step_of stop)
 no_data stopped.Ended = tt
 no_data stopped.Malformed = tt
 no_data stopped.SourceFault = tt
 no_data stopped.Long = tt
-
-pub can_stop : (first next : BodyState) (stop : Stop) → CanReach first (Err stop) next → CanStep first (step_of stop)
-can_stop (states.Fixed n) next stop (same, is) = absurd cc
-can_stop (states.Data n) next stop x = λ more. let same = (x more).0 in absurd (cc same)
-can_stop (states.Before pieces.Gap) next stop x = tt
-can_stop (states.Before pieces.Line) next stop x = tt
-can_stop (states.Before pieces.Trailer) next stop x = no_data stop
-can_stop states.Done next stop (same, is) = absurd cc
-can_stop states.Refused next stop (same, is) = let e : stop ≡ stopped.Malformed = cc in ap step_of e
 
 pub of_data : (left : ℕ) (stop : Stop) → ¬ (stop ≡ stopped.Malformed) → IsOfData left (step_of stop)
 of_data left stopped.Ended sound = tt
@@ -187,33 +143,6 @@ module _ (first now : BodyState) (a b c : Option (List ℕ)) (moved : OnStream a
   pub skipped_piece : (piece : Piece) (next : BodyState) → now ≡ states.Before piece → OnStream b c (TakesPiece (Ok next) piece) → OnStream a c (Skipped first next)
   skipped_piece piece next is took = on_then a b c moved took (λ x y z m t. skip_piece first now next piece x y z is m t)
 
-  -- a piece that was not taken
-  pub skipped_same : (piece : Piece) (stop : Stop) → OnStream b c (TakesPiece (Err stop) piece) → OnStream a c (Skipped first now)
-  skipped_same piece stop same = on_then a b c moved same (λ x y z m t. subst (λ (r : List ℕ). Skipped first now x r) (sym (kept piece stop y z t)) m)
-    where
-      kept : (piece : Piece) (stop : Stop) (y z : List ℕ) → TakesPiece (Err stop) piece y z → z ≡ y
-      kept piece stopped.Ended y z t = t.1
-      kept piece stopped.Malformed y z t = t.1
-      kept piece stopped.SourceFault y z t = t
-      kept piece stopped.Long y z t = t
-
-  pub stopped_at_piece : (piece : Piece) (stop : Stop) → now ≡ states.Before piece → OnStream b c (TakesPiece (Err stop) piece) → OnStream a c (λ old new. IsReachEnd (Err stop) now new)
-  stopped_at_piece piece stop is took = on_then a b c moved took (λ x y z m t. subst (λ (s : BodyState). IsStopAt stop s z) (sym is) (at piece stop y z t))
-    where
-      at : (piece : Piece) (stop : Stop) (y z : List ℕ) → TakesPiece (Err stop) piece y z → IsStopAt stop (states.Before piece) z
-      at piece stopped.Ended y z t = subst (λ (r : List ℕ). Stops (states.Before piece) r [] is_cut_short) (sym t.1) (refl, inr (t.0, refl))
-      at piece stopped.Malformed y z t = subst (λ (r : List ℕ). Stops (states.Before piece) r [] is_malformed) (sym t.1) (refl, inl (t.0, refl))
-      at piece stopped.SourceFault y z t = tt
-      at piece stopped.Long y z t = tt
-
-  pub moved_in : (n : ℕ) (buffer : List ℕ) → n ≤ due now → OnStream b c (GivesData (Ok n) buffer) → OnStream a c (λ old new. Moves first old (take n buffer) (less now n) new)
-  moved_in n buffer few gave = on_then a b c moved gave (λ x y z m t.
-      let long = length-take-le n buffer t.0 in
-      (now, y, m, omega (arith, few, long), t.1, ap (less now) (sym long)))
-
-  pub ended_in : (n : ℕ) (buffer : List ℕ) (next : BodyState) → OnStream b c (GivesData (Ok n) buffer) → OnStream a c (λ old new. IsStepEnd (steps.Bytes n) next new)
-  ended_in n buffer next gave = on_then a b c moved gave (λ x y z m t. tt)
-
   pub moved_none : (stop : Stop) (buffer room : List ℕ) → OnStream b c (GivesData (Err stop) buffer) → OnStream a c (λ old new. Moves first old (given (step_of stop) room) now new)
   moved_none stop buffer room gave = on_then a b c moved gave (λ x y z m t. subst (λ (k : ℕ). Moves first x (take k room) now z) (sym (no_count stop))
       (now, z, subst (Skips first x now) (sym t.0) m, omega arith, refl, sym (less_none now)))
@@ -234,26 +163,8 @@ module _ (first now : BodyState) (a b : Option (List ℕ)) (moved : OnStream a b
   pub skipped_data : now ≡ states.Data 0 → OnStream a b (Skipped first (states.Before pieces.Gap))
   skipped_data is = on_same a b moved (λ x y m. skip_data first now x y is m)
 
-  pub stopped_done : now ≡ states.Done → OnStream a b (λ old new. IsReachEnd (Ok 0) now new)
-  stopped_done is = on_same a b moved (λ x y m none. subst (λ (s : BodyState). Stops s y [] (ends_before y)) (sym is) (refl, refl))
-
-  pub stopped_refused : now ≡ states.Refused → OnStream a b (λ old new. IsReachEnd (Err stopped.Malformed) now new)
-  stopped_refused is = on_same a b moved (λ x y m. subst (λ (s : BodyState). Stops s y [] is_malformed) (sym is) (refl, refl))
-
-  pub stopped_in_data : (left : ℕ) → 0 < left → OnStream a b (λ old new. IsReachEnd (Ok left) now new)
-  stopped_in_data left some = on_same a b moved (λ x y m none. absurd (omega (arith, some, none)))
-
   pub moved_over : OnStream a b (λ old new. Moves first old [] now new)
   moved_over = on_same a b moved (λ x y m. (now, y, m, omega arith, refl, sym (less_none now)))
-
-  pub moved_before : (stop : Stop) (room : List ℕ) → OnStream a b (λ old new. Moves first old (given (step_of stop) room) now new)
-  moved_before stop room = on_same a b moved_over (λ x y m. subst (λ (k : ℕ). Moves first x (take k room) now y) (sym (no_count stop)) m)
-
-pub ended_at : (now : BodyState) (a b : Option (List ℕ)) → OnStream a b (λ old new. IsReachEnd (Ok 0) now new) → OnStream a b (λ old new. IsStepEnd steps.End now new)
-ended_at now a b stop = on_same a b stop (λ x y t. t refl)
-
-pub ended_before : (now : BodyState) (stop : Stop) (a b : Option (List ℕ)) → OnStream a b (λ old new. IsReachEnd (Err stop) now new) → OnStream a b (λ old new. IsStepEnd (step_of stop) now new)
-ended_before now stop a b x = on_same a b x (λ old new t. step_end stop now new t)
 
 -- ---- over what waits
 
@@ -276,21 +187,6 @@ module _ {S : Type 0} (old mid new : S) (first now : BodyState) (x y : List ℕ)
     ]
     | inr w ↦ inr w
   ]
-
-  pub hand_same : (piece : Piece) (stop : Stop) (z : List ℕ) → now ≡ states.Before piece → ((new ≡ mid) × TakesPiece (Err stop) piece y z) ⊎ IsCutAt piece y → AtHand old new first x now z
-  hand_same piece stop z is took = elim waits [
-    | inl w ↦ elim took [
-      | inl t ↦ inl (t.0 ∙ w.0, subst (Skips first x now) (sym (kept stop t.1)) w.1)
-      | inr cut ↦ inr (piece, y, subst (λ (s : BodyState). Skips first x s y) is w.1, cut)
-    ]
-    | inr w ↦ inr w
-  ]
-    where
-      kept : (stop : Stop) → TakesPiece (Err stop) piece y z → z ≡ y
-      kept stopped.Ended t = t.1
-      kept stopped.Malformed t = t.1
-      kept stopped.SourceFault t = t
-      kept stopped.Long t = t
 
 -- a body of which no data wait
 runs_over : (first : BodyState) (bytes : List ℕ) (now : BodyState) (rest : List ℕ) → Skips first bytes now rest → Stops now rest [] is_cut_short → Runs first bytes [] is_cut_short

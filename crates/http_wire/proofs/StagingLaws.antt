@@ -11,7 +11,7 @@ use Rattle.http_wire.specs.declared.stop.Stop.TheVariants as stopped
 use Rattle.http_wire.specs.Bodies.{is_cut_short, Stops, due, less, Skips}
 use Rattle.http_wire.specs.Filling.{FillsOn, takes_none, takes_data, Gains, GainsSome, GainsGiven, TakesBody, IsTakingEnd, Extends, CanAnswer, AnswersLength, IsBodyOpen}
 use Rattle.http_wire.specs.InnerPuts.{IsInData, PutsNone, PutsSome, TakesOff}
-use Rattle.http_wire.specs.InnerReaching.{taking_of, CanReach, IsStopAt, IsReachEnd}
+use Rattle.http_wire.specs.InnerReaching.{taking_of, CanReach}
 use Rattle.http_wire.specs.Flow.{OnStream}
 use Rattle.http_wire.proofs.FillingLaws.{takes_over, takes_end}
 use Rattle.http_wire.proofs.MovingLaws.{AtHand}
@@ -50,10 +50,6 @@ extends_then a b c one two = record {
 -- what was staged so far, and so much room is left
 abbrev pub Filled : ℕ → ℕ → BodyState → BodyState → Staged → Staged → List ℕ → List ℕ → Type 0
 Filled most room first now before held old new = (given : List ℕ) × FillsOn most first old given now new × (length given + room ≡ most) × Gains before held given
-
--- what was staged, and nothing else is known
-abbrev pub Given : ℕ → BodyState → BodyState → Staged → Staged → List ℕ → List ℕ → Type 0
-Given most first now before held old new = (given : List ℕ) × FillsOn most first old given now new × Gains before held given
 
 pub filled_none : (most : ℕ) (state : BodyState) (before : Staged) (a : Option (List ℕ)) → OnStream a a (Filled most most state state before before)
 filled_none most state before None = tt
@@ -105,22 +101,6 @@ module _ (most room : ℕ) (first now next : BodyState) (before held : Staged) (
       given_at stopped.Malformed x z given g = g
       given_at stopped.SourceFault x z given g = g
       given_at stopped.Long x z given g = g
-
-  -- no step more
-  pub whole_at : (n : ℕ) → OnStream b c (λ old new. IsReachEnd (Ok 0) next new) → OnStream a c (λ old new. IsTakingEnd (answers.Whole n) next new)
-  whole_at n stop = on_then a b c filled stop (λ x y z m t. t refl)
-
-  pub end_at : (stop : Stop) → OnStream b c (λ old new. IsReachEnd (Err stop) next new) → OnStream a c (λ old new. IsTakingEnd (taking_of stop) next new)
-  end_at stop ended = on_then a b c filled ended (λ x y z m t. at stop z t)
-    where
-      at : (stop : Stop) (z : List ℕ) → IsStopAt stop next z → IsTakingEnd (taking_of stop) next z
-      at stopped.Ended z t = t
-      at stopped.Malformed z t = t
-      at stopped.SourceFault z t = tt
-      at stopped.Long z t = tt
-
-  pub long_at : OnStream a c (λ old new. IsTakingEnd answers.TooLong next new)
-  long_at = on_same a c reached_on (λ x z m. tt)
 
 module _ (most room left : ℕ) (first now : BodyState) (before held after : Staged) (same : held.tells ≡ before.tells) (a b c : Option (List ℕ))
     (filled : OnStream a b (Filled most room first now before held)) where

@@ -10,13 +10,12 @@ use Rattle.http_wire.specs.declared.head.Heading.TheVariants as headings
 use Rattle.http_wire.specs.declared.head.BadHead.{BadHead}
 use Rattle.http_wire.specs.declared.head.BadHead.TheVariants as faults
 use Rattle.http_wire.specs.declared.judge.Judged.TheVariants as judged
-use Rattle.http_wire.specs.Answers.{number_of, IsBadHead, TellsHead, IsHeadOpen}
+use Rattle.http_wire.specs.Answers.{number_of, IsBadHead, TellsHead}
 use Rattle.http_wire.specs.InnerHeads.{Judges, EndsAs}
 use Rattle.std.specs.List.{list_all}
 use Rattle.httparse.specs.Pieces.{is_newline}
 use Rattle.http_wire.specs.Flow.{Flow, spent, IsBounded, OnStream}
 use Rattle.http_wire.specs.Heads.{IsOpen, HasManyFields}
-use Rattle.std.proofs.lemmas.Bool.{cases_Bool}
 
 -- a call that kept the stream left it as it was
 pub stays : (old new : Option (List ℕ)) → Keeps old new → OnStream old new (λ a b. b ≡ a)
@@ -92,13 +91,6 @@ ends (Some a) (Some q) p answer kept over x (inl (blank, is_end)) =
 ends (Some a) (Some q) p answer kept over x (inr (blank, is_cut)) =
     let same : a ≡ p = sym kept ∙ ap (λ (b : List ℕ). p ++ b) over ∙ append-nil p in
     subst (λ (v : Heading). TellsHead v a (p ++ q)) (sym is_cut) (subst (λ (b : List ℕ). (length b < 16384) × IsOpen b × (list_all is_newline b ≡ false)) (sym same) (x.1, x.0, blank), kept)
-
--- bytes that are open are neither a head nor refused yet
-pub open_is_open : (p : List ℕ) → Judges judged.Open p → IsHeadOpen p
-open_is_open p (is_open, few) = elim (cases_Bool (list_all is_newline p)) [
-  | inl blank ↦ inl (few, blank)
-  | inr some ↦ inr (few, is_open, some)
-]
 
 pub pending_fits : (b : List ℕ) (start end count : ℕ) → start ≤ end → count ≤ length (slice_range b start end) → start + count ≤ end
 pending_fits b start end count ordered few = omega (arith, length-take (end - start) (drop start b))

@@ -49,18 +49,6 @@ front_fits judged.Open piece p (begin, behind, split, cut, nothing) =
 append_none : (piece : List ℕ) (b : List ℕ) → b ≡ [] → piece ++ b ≡ piece
 append_none p b none = ap (λ (t : List ℕ). p ++ t) none ∙ append-nil p
 
-pub found_in : (p : List ℕ) (piece : Piece) (next : BodyState) (count : ℕ) → JudgesFront (judged.Whole next count) piece p → Passes piece p next (drop count p)
-found_in p piece next count (begin, behind, split, (passes, some, fits), nothing) =
-    let whole = Passes-append piece begin next (drop count begin) behind passes in
-    let after : drop count begin ++ behind ≡ drop count p = sym (drop_front count begin behind fits) ∙ ap (drop count) (sym split) in
-    subst (λ (b : List ℕ). Passes piece b next (drop count p)) (sym split) (subst (Passes piece (begin ++ behind) next) after whole)
-
-pub bad_in : (p : List ℕ) (piece : Piece) → JudgesFront judged.Bad piece p → IsBadAt piece p
-bad_in p piece (begin, behind, split, bad, nothing) = subst (IsBadAt piece) (sym split) (IsBadAt-append piece begin behind bad)
-
-pub open_in : (p : List ℕ) (piece : Piece) → JudgesFront judged.Open piece p → IsCutAt piece p
-open_in p piece (begin, behind, split, cut, nothing) = subst (IsCutAt piece) (sym (split ∙ append_none begin behind (nothing refl))) cut
-
 -- ---- on the stream
 
 pub piece_found : (old left : Option (List ℕ)) (p : List ℕ) (piece : Piece) (next : BodyState) (count : ℕ) → Keeps old (prepend_known p left)
