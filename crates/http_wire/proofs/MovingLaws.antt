@@ -1,6 +1,6 @@
 -- A reader of a body over a stream, from call to call.
 use Rattle.std.proofs.Common.{◌≡◌, ℕ, ◌<◌, ◌⊎◌, List, [], take, length, refl, sym, ap, subst, ◌∙◌, arith, inl, inr, Option, Some, None, Ok, Err}
-use Rattle.std.specs.Prelude.{Result, ⊤}
+use Rattle.std.specs.Prelude.{⊤}
 use Rattle.http_wire.specs.declared.body.BodyState.{BodyState}
 use Rattle.http_wire.specs.declared.body.BodyState.TheVariants as states
 use Rattle.http_wire.specs.declared.body.Piece.{Piece}
@@ -8,7 +8,7 @@ use Rattle.http_wire.specs.declared.body.Piece.TheVariants as pieces
 use Rattle.http_wire.specs.declared.stop.Stop.{Stop}
 use Rattle.http_wire.specs.declared.stop.Stop.TheVariants as stopped
 use Rattle.http_wire.specs.Bodies.{is_cut_short, Goes, Stops, due, less, Skips, stays, skips, Moves, IsCutAt, Runs, stops, Passes}
-use Rattle.http_wire.specs.BodyAnswers.{given, count_of, IsStepEnd, IsOfData, GivesNone}
+use Rattle.http_wire.specs.BodyAnswers.{given, count_of, IsStepEnd}
 use Rattle.http_wire.specs.InnerPieces.{TakesPiece, IsAfter}
 use Rattle.http_wire.specs.InnerReaching.{step_of, IsStopAt, EndsInPiece, GivesData}
 use Rattle.http_wire.specs.Flow.{Flow, OnStream, Counts}
@@ -33,17 +33,6 @@ Follows (states.Before pieces.Trailer) now = (now ≡ states.Before pieces.Trail
 Follows (states.Before piece) now = ⊤
 Follows states.Done now = now ≡ states.Done
 Follows states.Refused now = now ≡ states.Refused
-
--- what it answers where it stands
-abbrev pub Stands : BodyState → Result ℕ Stop → Type 0
-Stands (states.Fixed n) what = (0 < n) × (what ≡ Ok n)
-Stands (states.Data n) what = (0 < n) × (what ≡ Ok n)
-Stands (states.Before piece) what = (stop : Stop) × (what ≡ Err stop)
-Stands states.Done what = what ≡ Ok 0
-Stands states.Refused what = what ≡ Err stopped.Malformed
-
-stands_at : (now at : BodyState) (what : Result ℕ Stop) → now ≡ at → Stands now what → Stands at what
-stands_at now at what is stands = subst (λ (s : BodyState). Stands s what) is stands
 
 pub follows_none : (first : BodyState) → Follows first first
 follows_none (states.Fixed n) = inl refl
@@ -90,22 +79,7 @@ follows_piece (states.Before pieces.Trailer) now piece next (inr is) at after = 
 follows_piece states.Done now piece next is at after = absurd cc
 follows_piece states.Refused now piece next is at after = absurd cc
 
--- ---- what a step can answer
-
-fixed_left : (n left : ℕ) → ◌≡◌ {A = Result ℕ Stop} (Ok left) (Ok n) → left ≡ n
-fixed_left n left e = cc
-
-no_data : (stop : Stop) → GivesNone (step_of stop)
-no_data stopped.Ended = tt
-no_data stopped.Malformed = tt
-no_data stopped.SourceFault = tt
-no_data stopped.Long = tt
-
-pub of_data : (left : ℕ) (stop : Stop) → ¬ (stop ≡ stopped.Malformed) → IsOfData left (step_of stop)
-of_data left stopped.Ended sound = tt
-of_data left stopped.Malformed sound = absurd (sound refl)
-of_data left stopped.SourceFault sound = tt
-of_data left stopped.Long sound = tt
+-- ---- what a step gives
 
 pub no_count : (stop : Stop) → count_of (step_of stop) ≡ 0
 no_count stopped.Ended = refl
@@ -162,9 +136,6 @@ module _ (first now : BodyState) (a b : Option (List ℕ)) (moved : OnStream a b
 
   pub skipped_data : now ≡ states.Data 0 → OnStream a b (Skipped first (states.Before pieces.Gap))
   skipped_data is = on_same a b moved (λ x y m. skip_data first now x y is m)
-
-  pub moved_over : OnStream a b (λ old new. Moves first old [] now new)
-  moved_over = on_same a b moved (λ x y m. (now, y, m, omega arith, refl, sym (less_none now)))
 
 -- ---- over what waits
 

@@ -1,7 +1,7 @@
 -- From what waits in a feed to the pieces of a body on the stream.
-use Rattle.std.proofs.Common.{◌≡◌, ℕ, ◌+◌, ◌-◌, ◌<◌, ◌≤◌, min, List, [], ◌++◌, length, take, drop, slice_range, refl, sym, ap, subst, ◌∙◌, arith, append_assoc, append-nil, length-append, Option, Some, None, Ok, Err}
+use Rattle.std.proofs.Common.{◌≡◌, ℕ, ◌+◌, ◌-◌, ◌<◌, ◌≤◌, min, List, [], ◌++◌, length, take, drop, slice_range, refl, sym, ap, subst, ◌∙◌, arith, append_assoc, length-append, Option, Some, None, Ok, Err}
 use Rattle.std.proofs.Math.Nat.{sub-zero}
-use Rattle.std.specs.Io.KnownBytes.{prepend_known, Keeps, IsAtEnd}
+use Rattle.std.specs.Io.KnownBytes.{prepend_known, Keeps}
 use Rattle.http_wire.specs.declared.body.BodyState.{BodyState}
 use Rattle.http_wire.specs.declared.body.BodyState.TheVariants as states
 use Rattle.http_wire.specs.declared.body.Piece.{Piece}
@@ -46,9 +46,6 @@ front_fits judged.Open piece p (begin, behind, split, cut, nothing) =
 
 -- ---- of all that waits
 
-append_none : (piece : List ℕ) (b : List ℕ) → b ≡ [] → piece ++ b ≡ piece
-append_none p b none = ap (λ (t : List ℕ). p ++ t) none ∙ append-nil p
-
 -- ---- on the stream
 
 pub piece_found : (old left : Option (List ℕ)) (p : List ℕ) (piece : Piece) (next : BodyState) (count : ℕ) → Keeps old (prepend_known p left)
@@ -69,14 +66,6 @@ piece_bad (Some a) None p piece kept x = kept
 piece_bad (Some a) (Some q) p piece kept (begin, behind, split, bad, nothing) =
     let before : begin ++ (behind ++ q) ≡ a = sym (append_assoc begin behind q) ∙ ap (λ (b : List ℕ). b ++ q) (sym split) ∙ kept in
     (subst (IsBadAt piece) before (IsBadAt-append piece begin (behind ++ q) bad), kept)
-
-pub piece_cut : (old left : Option (List ℕ)) (p : List ℕ) (piece : Piece) → Keeps old (prepend_known p left) → IsAtEnd left → JudgesFront judged.Open piece p
-    → OnStream old (prepend_known p left) (TakesPiece (Err stopped.Ended) piece)
-piece_cut None left p piece kept over x = tt
-piece_cut (Some a) None p piece kept over x = kept
-piece_cut (Some a) (Some q) p piece kept over (begin, behind, split, cut, nothing) =
-    let before : begin ≡ a = sym (append-nil begin) ∙ ap (λ (b : List ℕ). begin ++ b) (sym (nothing refl)) ∙ sym split ∙ sym (append-nil p) ∙ ap (λ (b : List ℕ). p ++ b) (sym over) ∙ kept in
-    (subst (IsCutAt piece) before cut, kept)
 
 pub passes_after : (piece : Piece) (bytes : List ℕ) (next : BodyState) (rest : List ℕ) → Passes piece bytes next rest → IsAfter piece next
 passes_after pieces.Gap bytes next rest x = x.1
