@@ -3,3 +3,7 @@
 
 #[cfg(test)]
 mod directory;
+#[cfg(test)]
+mod links;
+#[cfg(test)]
+mod memory;
