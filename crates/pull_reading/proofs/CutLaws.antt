@@ -2,7 +2,7 @@
 use Rattle.std.proofs.Common.{◌≡◌, ℕ, true, ◌==◌, List, [], ◌∷◌, ◌++◌, refl, sym, ap, subst, eq-eqb}
 use Rattle.std.specs.Prelude.{not}
 use Rattle.std.proofs.lemmas.Bool.{and_parts}
-use Rattle.pull_reading.specs.Parsing.{IsFree}
+use Rattle.pull_reading.specs.InnerParsing.{IsFree}
 
 -- a text with the byte in it is not free of it
 pub not_free : (x : ℕ) (a c : List ℕ) → IsFree x (a ++ x ∷ c) → ⊥

@@ -21,8 +21,8 @@ use Rattle.reg_names.proofs.TextBytes.{list_all-implied, is_name_byte, name-byte
 use Rattle.pull_reading.specs.declared.ask.Ask.{Ask}
 use Rattle.pull_reading.specs.declared.ask.Ask.TheVariants.{Manifest, Blob, Tags}
 use Rattle.pull_reading.specs.Requests.{IsRequest, IsAsk, target, behind_target, spelling, crlf, ending, is_host, is_host_byte}
-use Rattle.pull_reading.specs.Fronts.{blank_line, head_end}
-use Rattle.pull_reading.specs.Parsing.{IsFree, name_of, kind_of, last_of}
+use Rattle.pull_reading.specs.InnerFronts.{blank_line, head_end}
+use Rattle.pull_reading.specs.InnerParsing.{IsFree, name_of, kind_of, last_of}
 use Rattle.pull_reading.proofs.TargetLaws.{is_plain_byte, kind_bytes, last_bytes, named, target-is}
 
 -- ---- where a head ends

@@ -6,10 +6,10 @@ use Rattle.std.proofs.lemmas.List.{take_at, nil_from_length}
 use Rattle.pull_reading.specs.declared.ask.Ask.{Ask}
 use Rattle.pull_reading.specs.declared.reading.Asked.{Asked}
 use Rattle.pull_reading.specs.declared.reading.Asked.TheVariants.{Pull, Nothing, Cut, NoRequest}
-use Rattle.pull_reading.specs.Requests.{IsRequest, BeginsWith, IsCut, IsNoRequest, Reads}
-use Rattle.pull_reading.specs.Fronts.{head_end, ReadsFront, EndsInput}
-use Rattle.pull_reading.specs.Parsing.{FindsRequest}
-use Rattle.pull_reading.specs.Unfinished.{IsUnfinished}
+use Rattle.pull_reading.specs.Requests.{IsRequest, BeginsWith, IsCutRequest, IsNoRequest, Reads, EndsInput}
+use Rattle.pull_reading.specs.InnerFronts.{head_end, ReadsFront}
+use Rattle.pull_reading.specs.InnerParsing.{FindsRequest}
+use Rattle.pull_reading.specs.InnerUnfinished.{IsUnfinished}
 use Rattle.pull_reading.proofs.CutLaws.{Meets, inside, beyond, meets}
 use Rattle.pull_reading.proofs.FrontLaws.{head_end-within, head_end-more, request_reaches, request_short}
 use Rattle.pull_reading.proofs.RequestLaws.{one_ask}
@@ -36,7 +36,7 @@ head_is input len ask b e =
 pub ends_in : (input : List ℕ) (ask : Ask) (b : BeginsWith input ask) → head_end input ≡ Some (length b.head)
 ends_in input ask b = ap head_end b.split ∙ request_reaches b.head b.rest ask b.request
 
-pub not_both : (input : List ℕ) (ask : Ask) → BeginsWith input ask → ¬ IsCut input
+pub not_both : (input : List ℕ) (ask : Ask) → BeginsWith input ask → ¬ IsCutRequest input
 not_both input ask b c = c.more (nothing_behind input c.rest (length b.head) c.ask (ends_in input ask b) c.request)
 
 not_empty : (input : List ℕ) (ask : Ask) → BeginsWith input ask → input ≢ []
@@ -82,7 +82,7 @@ none_found front len e none = record {
 pub some_from_length : (front : List ℕ) → (length front == 0) ≡ false → front ≢ []
 some_from_length front some e = cc (some, ap (λ t. length t == 0) e)
 
-pub is_cut : (front : List ℕ) → front ≢ [] → IsUnfinished front → IsCut front
+pub is_cut : (front : List ℕ) → front ≢ [] → IsUnfinished front → IsCutRequest front
 is_cut front begun u = record { ask = u.request.0; rest = u.rest; request = u.request.1; begun = begun; more = u.more }
 
 pub is_no_request : (front : List ℕ) → front ≢ [] → head_end front ≡ None → ¬ IsUnfinished front → IsNoRequest front
@@ -102,14 +102,14 @@ nil_back : (a b : List ℕ) → a ++ b ≡ [] → b ≡ []
 nil_back [] b e = e
 nil_back (x ∷ a) b e = cc e
 
--- a front that has no blank line and does not fill the room is all of the input
+-- a front that has no blank line and does not fill the buffer is all of the input
 empty_is_all : (front : List ℕ) (IsAll : Type 0) → IsSome (head_end front) ⊎ ((length front ≡ 697) ⊎ IsAll) → front ≡ [] → IsAll
 empty_is_all front IsAll (inl ended) e = cc (rw e at ended)
 empty_is_all front IsAll (inr (inl full)) e = cc (sym full ∙ ap length e)
 empty_is_all front IsAll (inr (inr over)) e = over
 
 -- a cut front is all of the input
-cut_is_all : (front : List ℕ) (IsAll : Type 0) → IsSome (head_end front) ⊎ ((length front ≡ 697) ⊎ IsAll) → IsCut front → IsAll
+cut_is_all : (front : List ℕ) (IsAll : Type 0) → IsSome (head_end front) ⊎ ((length front ≡ 697) ⊎ IsAll) → IsCutRequest front → IsAll
 cut_is_all front IsAll decides c = elim decides [
   | inl ended ↦ let some = some_of (head_end front) ended in absurd (c.more (nothing_behind front c.rest some.0 c.ask some.1 c.request))
   | inr other ↦ elim other [

@@ -5,11 +5,11 @@ use Rattle.std.specs.List.{list_all}
 use Rattle.std.proofs.lemmas.Bool.{and_parts}
 use Rattle.std.proofs.lemmas.Bool.Decides.{nat_tests}
 use Rattle.std.proofs.lemmas.List.{append_cancel_left, append_cancel_right}
-use Rattle.reg_names.specs.Reading.{ReadsText}
+use Rattle.reg_names.specs.Reading.{ReadsBack}
 use Rattle.reg_names.proofs.TextBytes.{list_all-implied}
 use Rattle.pull_reading.specs.declared.ask.Ask.{Ask}
 use Rattle.pull_reading.specs.Requests.{IsRequest, IsAsk, target, behind_target, crlf, ending, is_host, is_host_byte}
-use Rattle.pull_reading.specs.Parsing.{IsFree, FindsRequest, HasHost, HasNoHost}
+use Rattle.pull_reading.specs.InnerParsing.{IsFree, FindsRequest, HasHost, HasNoHost}
 use Rattle.pull_reading.proofs.CutLaws.{not_free, cut_unique}
 use Rattle.pull_reading.proofs.TargetLaws.{same_ask}
 
@@ -73,15 +73,15 @@ pub no_request-without_method : (head line host : List ℕ) → HasHost head lin
 no_request-without_method head line host h no_method ask r = no_method (target ask) (sym (found head line host ask h r).line_is)
 
 -- the request with a target that was read
-pub request_found : (head line host text : List ℕ) (answer : Option Ask) → HasHost head line host → IsTrue (is_host host) → line ≡ codes "GET /v2/" ++ text → ReadsText IsAsk target text answer → FindsRequest head answer
+pub request_found : (head line host text : List ℕ) (answer : Option Ask) → HasHost head line host → IsTrue (is_host host) → line ≡ codes "GET /v2/" ++ text → ReadsBack IsAsk target text answer → FindsRequest head answer
 request_found head line host text (Some ask) h of_host e is = record {
   host = host;
   of_host = of_host;
   of_ask = is.0;
-  spelled = h.split ∙ ap (λ t. t ++ behind_target host) (e ∙ ap (λ t. codes "GET /v2/" ++ t) is.1);
+  spelled = h.split ∙ ap (λ t. t ++ behind_target host) (e ∙ ap (λ t. codes "GET /v2/" ++ t) (sym is.1));
 }
 request_found head line host text None h of_host e none = λ ask r.
-    none (ask, r.of_ask, append_cancel_left (codes "GET /v2/") text (target ask) (sym e ∙ sym (found head line host ask h r).line_is))
+    none ask r.of_ask (sym (append_cancel_left (codes "GET /v2/") text (target ask) (sym e ∙ sym (found head line host ask h r).line_is)))
 
 -- a head is a request for one ask
 pub one_ask : (head : List ℕ) (a b : Ask) → IsRequest head a → IsRequest head b → a ≡ b

@@ -5,7 +5,7 @@ use Rattle.std.specs.List.{list_all}
 use Rattle.std.proofs.lemmas.Bool.{and_from, agree_below_at}
 use Rattle.std.proofs.lemmas.Bool.Decides.{nat_tests}
 use Rattle.hex.specs.Hex.{encode_lower, encode_with, lower_digits}
-use Rattle.reg_names.specs.Reading.{ReadsText}
+use Rattle.reg_names.specs.Reading.{ReadsBack}
 use Rattle.reg_names.specs.Tags.{is_tag_byte}
 use Rattle.reg_names.specs.Names.{IsName}
 use Rattle.reg_names.specs.Digests.{AreBytes, IsDigest, digest_text, digest_named}
@@ -18,7 +18,7 @@ use Rattle.reg_names.proofs.ReferenceTexts.{reference_named-text}
 use Rattle.pull_reading.specs.declared.ask.Ask.{Ask}
 use Rattle.pull_reading.specs.declared.ask.Ask.TheVariants.{Manifest, Blob, Tags}
 use Rattle.pull_reading.specs.Requests.{IsAsk, target}
-use Rattle.pull_reading.specs.Parsing.{IsFree, IsCutAt, HasParts, HasNoParts, name_of, kind_of, last_of, HasAskParts, FindsAsk}
+use Rattle.pull_reading.specs.InnerParsing.{IsFree, IsCutAt, HasParts, HasNoParts, name_of, kind_of, last_of, HasAskParts, FindsAsk}
 use Rattle.pull_reading.proofs.CutLaws.{not_free, cut_unique}
 
 -- ---- which bytes are in it
@@ -104,8 +104,8 @@ parts_are text front back name kind cut again = record {
 
 -- ---- its ask
 
-pub no_target-without_parts : (text : List ℕ) → HasNoParts text → ReadsText IsAsk target text None
-no_target-without_parts text none a = none (name_of a.0) (kind_of a.0) (last_of a.0) (rw a.2 (has_parts a.0 a.1))
+pub no_target-without_parts : (text : List ℕ) → HasNoParts text → ReadsBack IsAsk target text None
+no_target-without_parts text none ask is e = none (name_of ask) (kind_of ask) (last_of ask) (rw (← e) (has_parts ask is))
 
 pub named : (ask : Ask) → IsAsk ask → IsName (name_of ask)
 named (Manifest name reference) h = h.0
@@ -117,15 +117,15 @@ ask_parts text name kind last ask h is e =
     let same = one_parts (target ask) (name_of ask) (kind_of ask) (last_of ask) name kind last (has_parts ask is) (rw (← e) h) in
     record { in_form = is; of_name = same.of_name; of_kind = same.of_kind; of_last = same.of_last }
 
-pub no_target-without_name : (text name kind last : List ℕ) → HasParts text name kind last → ¬ IsName name → ReadsText IsAsk target text None
-no_target-without_name text name kind last h bad a =
-    let parts = ask_parts text name kind last a.0 h a.1 a.2 in
-    bad (subst IsName parts.of_name (named a.0 a.1))
+pub no_target-without_name : (text name kind last : List ℕ) → HasParts text name kind last → ¬ IsName name → ReadsBack IsAsk target text None
+no_target-without_name text name kind last h bad ask is e =
+    let parts = ask_parts text name kind last ask h is (sym e) in
+    bad (subst IsName parts.of_name (named ask is))
 
-pub target_found : (text name kind last : List ℕ) (found : Option Ask) → HasParts text name kind last → FindsAsk name kind last found → ReadsText IsAsk target text found
+pub target_found : (text name kind last : List ℕ) (found : Option Ask) → HasParts text name kind last → FindsAsk name kind last found → ReadsBack IsAsk target text found
 target_found text name kind last (Some ask) h f =
-    (f.in_form, h.split ∙ rw (← f.of_name, ← f.of_kind, ← f.of_last) (sym (target-is ask)))
-target_found text name kind last None h none = λ a. none a.0 (ask_parts text name kind last a.0 h a.1 a.2)
+    (f.in_form, sym (h.split ∙ rw (← f.of_name, ← f.of_kind, ← f.of_last) (sym (target-is ask))))
+target_found text name kind last None h none = λ ask is e. none ask (ask_parts text name kind last ask h is (sym e))
 
 -- ---- a target is that of one ask
 

@@ -8,7 +8,8 @@ use Rattle.std.proofs.lemmas.List.Folds.{list_all-append}
 use Rattle.hex.specs.Hex.{encode_lower, encode_with, lower_digits}
 use Rattle.reg_names.specs.Tags.{is_word, is_tag_byte, IsTag}
 use Rattle.reg_names.specs.Names.{is_alphanumeric, begins, goes_on, underscored, dashed, IsName}
-use Rattle.reg_names.specs.Digests.{AreBytes, IsDigestText, digest_text}
+use Rattle.reg_names.specs.Digests.{AreBytes, digest_text}
+use Rattle.reg_names.specs.InnerDigests.{IsDigestText}
 use Rattle.reg_names.specs.References.{IsReference, reference_text}
 use Rattle.reg_names.specs.declared.reference.Reference.{Reference}
 use Rattle.reg_names.specs.declared.reference.Reference.TheVariants.{Tag, Digest}

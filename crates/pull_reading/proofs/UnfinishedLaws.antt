@@ -5,13 +5,14 @@ use Rattle.std.proofs.Math.Seq.{drop-append_seam}
 use Rattle.std.proofs.lemmas.Bool.{cases_lt}
 use Rattle.std.proofs.lemmas.List.{nil_from_length, length-drop}
 use Rattle.reg_names.specs.Names.{IsName}
-use Rattle.reg_names.specs.Digests.{IsDigestText, digest_text}
+use Rattle.reg_names.specs.Digests.{digest_text}
+use Rattle.reg_names.specs.InnerDigests.{IsDigestText}
 use Rattle.reg_names.specs.References.{reference_text}
 use Rattle.pull_reading.specs.declared.ask.Ask.{Ask}
 use Rattle.pull_reading.specs.declared.ask.Ask.TheVariants.{Manifest, Blob, Tags}
 use Rattle.pull_reading.specs.Requests.{IsRequest, IsAsk, target, behind_target, crlf, ending}
-use Rattle.pull_reading.specs.Parsing.{FindsRequest}
-use Rattle.pull_reading.specs.Unfinished.{IsSomeRequest, IsUnfinished, IsEndedBy}
+use Rattle.pull_reading.specs.InnerParsing.{FindsRequest}
+use Rattle.pull_reading.specs.InnerUnfinished.{IsSomeRequest, IsUnfinished, IsEndedBy}
 use Rattle.pull_reading.proofs.ReadingLaws.{nothing_behind, ends}
 use Rattle.pull_reading.proofs.Enders.{Ended, IsEnder, IsOnly, only, AreJoined, joins}
 use Rattle.pull_reading.proofs.TextEnders.{name, one_digest, digest, is_one_digest, IsReferenceText, reference, is_one_reference, IsHost, host}

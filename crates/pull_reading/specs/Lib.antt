@@ -1,4 +1,4 @@
 pub mod Requests
-pub mod Fronts
-pub mod Parsing
-pub mod Unfinished
+pub mod InnerFronts
+pub mod InnerParsing
+pub mod InnerUnfinished

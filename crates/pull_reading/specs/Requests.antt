@@ -1,6 +1,7 @@
 -- The requests that are read: a pull at the front of an input, with CR LF line ends (RFC 9112, sections 2 and 3).
-use Rattle.std.specs.Prelude.{◌≡◌, ◌≢◌, ℕ, ◌&&◌, ◌||◌, ◌==◌, Bool, nat_le, List, [], ◌∷◌, ◌++◌, length, codes, IsTrue}
+use Rattle.std.specs.Prelude.{◌≡◌, ◌≢◌, ℕ, ◌&&◌, ◌||◌, ◌==◌, Bool, nat_le, List, [], ◌∷◌, ◌++◌, length, codes, Option, IsTrue, MatchOption}
 use Rattle.std.specs.List.{list_all}
+use Rattle.std.specs.Io.KnownBytes.{IsAtEnd}
 use Rattle.reg_names.specs.Tags.{is_lower, is_digit, is_upper}
 use Rattle.reg_names.specs.Names.{IsName}
 use Rattle.reg_names.specs.Digests.{IsDigest, digest_text}
@@ -22,12 +23,20 @@ target (Manifest name reference) = name ++ (codes "/manifests/" ++ reference_tex
 target (Blob name digest) = name ++ (codes "/blobs/" ++ digest_text digest)
 target (Tags name) = name ++ codes "/tags/list"
 
+-- the most bytes of a host
+abbrev pub longest_host : ℕ
+longest_host = 255
+
+-- the most bytes of a request: its fixed texts, and a name, a tag and a host of 255, 128 and 255 bytes
+abbrev pub longest_request : ℕ
+longest_request = 697
+
 -- letters, digits, `.`, `:` and `-`
 abbrev pub is_host_byte : ℕ → Bool
 is_host_byte b = is_lower b || is_upper b || is_digit b || b == 46 || b == 58 || b == 45
 
 abbrev pub is_host : List ℕ → Bool
-is_host host = nat_le 1 (length host) && nat_le (length host) 255 && list_all is_host_byte host
+is_host host = nat_le 1 (length host) && nat_le (length host) longest_host && list_all is_host_byte host
 
 abbrev pub crlf : List ℕ
 crlf = 13 ∷ 10 ∷ []
@@ -59,7 +68,7 @@ pub record BeginsWith (input : List ℕ) (ask : Ask) : Type 0 where
   pub split : input ≡ head ++ rest
 
 -- the input ends inside a request, behind its first byte
-pub record IsCut (input : List ℕ) : Type 0 where
+pub record IsCutRequest (input : List ℕ) : Type 0 where
   pub ask : Ask
   pub rest : List ℕ
   pub request : IsRequest (input ++ rest) ask
@@ -69,12 +78,22 @@ pub record IsCut (input : List ℕ) : Type 0 where
 -- it is none of these
 pub record IsNoRequest (input : List ℕ) : Type 0 where
   pub some : input ≢ []
-  pub not_cut : ¬ IsCut input
+  pub not_cut : ¬ IsCutRequest input
   pub asks_nothing : (ask : Ask) → ¬ BeginsWith input ask
 
 -- what an input asks for, or why it asks for nothing
 abbrev pub Reads : List ℕ → Asked → Type 0
 Reads input (asked.Pull ask) = BeginsWith input ask
 Reads input asked.Nothing = input ≡ []
-Reads input asked.Cut = IsCut input
+Reads input asked.Cut = IsCutRequest input
 Reads input asked.NoRequest = IsNoRequest input
+
+-- this holds of what a source has left, of which nothing is said where the source does not tell it
+abbrev pub IfTold : Option (List ℕ) → (List ℕ → Type 0) → Type 0
+IfTold left IsSo = MatchOption left (Unit {0}) IsSo
+
+-- an input that asks for nothing since it is empty or cut was read to its end
+abbrev pub EndsInput : Option (List ℕ) → Asked → Type 0
+EndsInput left asked.Nothing = IsAtEnd left
+EndsInput left asked.Cut = IsAtEnd left
+EndsInput left other = Unit {0}

@@ -1,7 +1,8 @@
-//! The requests that `once` answers: a pull of a manifest, of a blob or of a list of tags, in one spelling.
-//! `read` tells exactly what the front of an input asks for, that the input ends inside a request, or that it is
-//! none, and reads no further than a request may reach; a law makes that reading the only one.
-//! Whoever answers one request from an input reads it here (RFC 9112; OCI Distribution Specification 1.1).
+//! The requests that `once` answers: a pull of a manifest, of a blob or of a list of tags.
+//! `read` tells exactly what the front of an input asks for, that the input ends inside a request,
+//! or that it is none, and reads no further than a request may reach; a law makes that reading the
+//! only one. Each request has one spelling (RFC 9112; OCI Distribution Specification 1.1).
+//! Whoever answers one request from an input reads it here.
 #![tactic(auto)]
 
 mod ask;
@@ -9,8 +10,6 @@ mod laws;
 mod reading;
 mod request;
 mod target;
-#[cfg(test)]
-mod tests;
 mod unfinished;
 
 pub use ask::Ask;

@@ -1,10 +1,10 @@
 //! Reading the request at the front of an input.
-ghost use Rattle.std.specs.Prelude.{◌≡◌, ◌+◌, ◌<◌, ◌≤◌, length, take, drop, IfOk, IsErr, IsErrOf, MatchOption};
+ghost use Rattle.std.specs.Prelude.{◌≡◌, ◌+◌, ◌<◌, ◌≤◌, length, take, drop, IfOk, IsErr, IsErrOf};
 ghost use Rattle.std.specs.Io.KnownBytes.{Consumes, IsAtEnd};
 ghost use Rattle.reg_names.specs.Cause.{HasCause};
-ghost use Rattle.depot_api.specs.Streams.{Gives};
-ghost use Rattle.pull_reading.specs.Requests.{Reads};
-ghost use Rattle.pull_reading.specs.Fronts.{ReadsFront, EndsInput};
+ghost use Rattle.depot_api.specs.Streams.{GivesUpTo};
+ghost use Rattle.pull_reading.specs.Requests.{Reads, EndsInput, IfTold, longest_request};
+ghost use Rattle.pull_reading.specs.InnerFronts.{ReadsFront};
 ghost use Rattle.pull_reading.specs.declared.reading.Unread.TheVariants as unread;
 
 use crate::Ask;
@@ -14,8 +14,9 @@ use depot_api::{Source, SourceFault};
 use reg_names::NoMemory;
 use std::alloc::Global;
 
-/// The most bytes of a request: its fixed texts, and a name, a tag and a host of 255, 128 and 255 bytes.
-const LONGEST: usize = 697;
+/// The most bytes of a request: its fixed texts, and a name, a tag and a host of 255, 128 and
+/// 255 bytes.
+const LONGEST_REQUEST: usize = 697;
 
 /// What an input asks for, or why it asks for nothing.
 #[derive(Debug, Drop)]
@@ -61,14 +62,15 @@ impl From<NoMemory> for Unread {
 
 /// Reads the front of the input, as far as a request may reach, and tells what it asks for.
 pub fn read<S: Source>(alloc: Global, input: &mut S) -> Result<Asked, Unread>
-    ensures asked { IfOk result (λ asked. MatchOption (S.left input.old) (Unit {0}) (λ bytes. Reads bytes asked)) }
+    ensures asked { IfOk result (λ asked. IfTold (S.left input.old) (λ bytes. Reads bytes asked)) }
     ensures ended { IfOk result (EndsInput (S.left input.new)) }
-    ensures reach { S.given input.new ≤ S.given input.old + 697 }
-    ensures cause { HasCause (S.faults input.old) (S.faults input.new) (IsErrOf result unread.SourceFault) }
+    ensures reach { S.given input.new ≤ S.given input.old + longest_request }
+    ensures cause { HasCause (S.faults input.old) (S.faults input.new)
+        (IsErrOf result unread.SourceFault) }
 {
-    let mut room = [0; LONGEST];
-    let end = read_front(input, &mut room)?;
-    Ok(asked_by(alloc, &room[..end])?)
+    let mut buffer = [0; LONGEST_REQUEST];
+    let end = read_front(input, &mut buffer)?;
+    Ok(asked_by(alloc, &buffer[..end])?)
 }
 
 // What an input of these bytes asks for.
@@ -88,34 +90,37 @@ fn asked_by(alloc: Global, front: &[u8]) -> Result<Asked, NoMemory>
     })
 }
 
-// Reads until a blank line, the end of the room or the end of the input.
-fn read_front<S: Source>(input: &mut S, room: &mut [u8]) -> Result<usize, SourceFault>
-    ensures within { IfOk result (λ end. end ≤ length room.old) }
-    ensures reach { S.given input.new ≤ S.given input.old + length room.old }
-    ensures front { IfOk result (λ end. ReadsFront (length room.old) (S.left input.old) (S.left input.new) (take end room.new)) }
+// Reads until a blank line, the end of the buffer or the end of the input.
+fn read_front<S: Source>(input: &mut S, buffer: &mut [u8]) -> Result<usize, SourceFault>
+    ensures within { IfOk result (λ end. end ≤ length buffer.old) }
+    ensures reach { S.given input.new ≤ S.given input.old + length buffer.old }
+    ensures front { IfOk result (λ end.
+        ReadsFront (length buffer.old) (S.left input.old) (S.left input.new)
+        (take end buffer.new)) }
     ensures cause { HasCause (S.faults input.old) (S.faults input.new) (IsErr result) }
 {
     let mut end = 0;
     loop {
-        if end == room.len() || head_len(&room[..end]).is_some() {
+        if end == buffer.len() || head_len(&buffer[..end]).is_some() {
             return Ok(end);
         }
-        match read_at(input, room, end)? {
+        match read_at(input, buffer, end)? {
             0 => return Ok(end),
             n => end += n,
         }
     }
 }
 
-// Reads once into the room behind `end`.
-fn read_at<S: Source>(input: &mut S, room: &mut [u8], end: usize) -> Result<usize, SourceFault>
-    requires { end < length room.old }
-    ensures within { IfOk result (λ n. end + n ≤ length room.old) }
-    ensures count { Gives (drop end room.old) (S.given input.old) (S.given input.new) result }
-    ensures front { take end room.new ≡ take end room.old }
-    ensures read { IfOk result (λ n. Consumes (S.left input.old) (S.left input.new) (take n (drop end room.new))) }
+// Reads once into the buffer behind `end`.
+fn read_at<S: Source>(input: &mut S, buffer: &mut [u8], end: usize) -> Result<usize, SourceFault>
+    requires { end < length buffer.old }
+    ensures within { IfOk result (λ n. end + n ≤ length buffer.old) }
+    ensures count { GivesUpTo (drop end buffer.old) (S.given input.old) (S.given input.new) result }
+    ensures front { take end buffer.new ≡ take end buffer.old }
+    ensures read { IfOk result (λ n.
+        Consumes (S.left input.old) (S.left input.new) (take n (drop end buffer.new))) }
     ensures ended { IfOk result (λ n. n ≡ 0 → IsAtEnd (S.left input.new)) }
     ensures cause { HasCause (S.faults input.old) (S.faults input.new) (IsErr result) }
 {
-    input.read(&mut room[end..])
+    input.read(&mut buffer[end..])
 }

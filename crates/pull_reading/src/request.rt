@@ -1,8 +1,8 @@
 //! Whole requests: a target, the version of HTTP, a host, and that the connection closes.
 ghost use Rattle.std.specs.Prelude.{◌≡◌, ◌≤◌, length, IfOk, IfSome, MatchOption};
 ghost use Rattle.pull_reading.specs.Requests.{is_host};
-ghost use Rattle.pull_reading.specs.Fronts.{head_end};
-ghost use Rattle.pull_reading.specs.Parsing.{FindsRequest, HasHost, HasNoHost};
+ghost use Rattle.pull_reading.specs.InnerFronts.{head_end};
+ghost use Rattle.pull_reading.specs.InnerParsing.{FindsRequest, HasHost, HasNoHost};
 
 use crate::Ask;
 use crate::target::{cut_at_last, read_target};

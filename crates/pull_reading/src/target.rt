@@ -1,9 +1,9 @@
 //! Targets of requests: a repository's name, the kind of what is asked for, and which of the kind.
 ghost use Rattle.std.specs.Prelude.{IfOk, MatchOption};
-ghost use Rattle.reg_names.specs.Reading.{ReadsText};
+ghost use Rattle.reg_names.specs.Reading.{ReadsBack};
 ghost use Rattle.reg_names.specs.Names.{IsName};
 ghost use Rattle.pull_reading.specs.Requests.{IsAsk, target};
-ghost use Rattle.pull_reading.specs.Parsing.{IsFree, IsCutAt, HasParts, HasNoParts, FindsAsk};
+ghost use Rattle.pull_reading.specs.InnerParsing.{IsFree, IsCutAt, HasParts, HasNoParts, FindsAsk};
 
 use crate::Ask;
 use reg_names::{Digest, Name, NoMemory, Reference};
@@ -11,7 +11,7 @@ use std::alloc::Global;
 
 /// The ask whose target a text is.
 pub fn read_target(alloc: Global, text: &[u8]) -> Result<Option<Ask>, NoMemory>
-    ensures { IfOk result (ReadsText IsAsk target text.now) }
+    ensures { IfOk result (ReadsBack IsAsk target text.now) }
 {
     let Some((name, kind, last)) = cut_target(text) else {
         return Ok(None);
@@ -42,7 +42,8 @@ fn read_parts(alloc: Global, name: Name, kind: &[u8], last: &[u8]) -> Result<Opt
 
 // What stands before the last two slashes, between them and behind them.
 fn cut_target(text: &[u8]) -> Option<(&[u8], &[u8], &[u8])>
-    ensures { MatchOption result (HasNoParts text.now) (λ p. HasParts text.now p.0.now p.1.now p.2.now) }
+    ensures { MatchOption result (HasNoParts text.now)
+        (λ p. HasParts text.now p.0.now p.1.now p.2.now) }
 {
     let (front, last) = cut_at_last(text, b'/')?;
     let (name, kind) = cut_at_last(front, b'/')?;
@@ -51,7 +52,8 @@ fn cut_target(text: &[u8]) -> Option<(&[u8], &[u8], &[u8])>
 
 /// What stands before and behind the last place of a byte.
 pub fn cut_at_last(text: &[u8], byte: u8) -> Option<(&[u8], &[u8])>
-    ensures { MatchOption result (IsFree byte text.now) (λ p. IsCutAt byte text.now p.0.now p.1.now) }
+    ensures { MatchOption result (IsFree byte text.now)
+        (λ p. IsCutAt byte text.now p.0.now p.1.now) }
 {
     let mut end = text.len();
     while end > 0 {

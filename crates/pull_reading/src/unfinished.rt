@@ -1,17 +1,17 @@
-//! Requests that are not ended. A front of a request is ended by a tail of one of three whole requests, one for each
-//! kind of ask, so every such tail is tried.
+//! Requests that are not ended. A front of a request is ended by a tail of one of three whole
+//! requests, one for each kind of ask, so every such tail is tried.
 ghost use Rattle.std.specs.Prelude.{◌++◌, ◌↔◌, IfOk, IsTrue};
-ghost use Rattle.pull_reading.specs.Unfinished.{IsSomeRequest, IsUnfinished, IsEndedBy};
+ghost use Rattle.pull_reading.specs.InnerUnfinished.{IsSomeRequest, IsUnfinished, IsEndedBy};
 
 use crate::request::read_request;
 use reg_names::NoMemory;
 use std::alloc::Global;
 
-const MANIFEST: [u8; 132] =
-    *b"GET /v2/a/manifests/sha256:0000000000000000000000000000000000000000000000000000000000000000 HTTP/1.1\r\nHost: a\r\nConnection: close\r\n\r\n";
+const MANIFEST: [u8; 132] = *b"GET /v2/a/manifests/sha256:00000000000000000000000000000000\
+    00000000000000000000000000000000 HTTP/1.1\r\nHost: a\r\nConnection: close\r\n\r\n";
 
-const BLOB: [u8; 128] =
-    *b"GET /v2/a/blobs/sha256:0000000000000000000000000000000000000000000000000000000000000000 HTTP/1.1\r\nHost: a\r\nConnection: close\r\n\r\n";
+const BLOB: [u8; 128] = *b"GET /v2/a/blobs/sha256:00000000000000000000000000000000\
+    00000000000000000000000000000000 HTTP/1.1\r\nHost: a\r\nConnection: close\r\n\r\n";
 
 const TAGS: [u8; 60] = *b"GET /v2/a/tags/list HTTP/1.1\r\nHost: a\r\nConnection: close\r\n\r\n";
 

@@ -2,7 +2,7 @@ use Rattle.std.proofs.Common.{◌≡◌, ◌-◌, sym, ap, ◌∙◌, subst, ari
 use Rattle.std.specs.Prelude.{option_map}
 use Rattle.std.specs.List.{starts_with}
 use Rattle.std.proofs.lemmas.List.{take_all, length-drop}
-use Rattle.pull_reading.specs.Fronts.{blank_line, head_end}
+use Rattle.pull_reading.specs.InnerFronts.{blank_line, head_end}
 use Rattle.pull_reading.proofs.FrontLaws.{head_end-later}
 use Rattle.pull_reading.proofs.request.head_len.Goals as goal
 

@@ -1,6 +1,6 @@
 use Rattle.std.proofs.Common.{◌≡◌, ◌+◌, drop}
 use Rattle.std.specs.Prelude.{option_map}
-use Rattle.pull_reading.specs.Fronts.{head_end}
+use Rattle.pull_reading.specs.InnerFronts.{head_end}
 use Rattle.pull_reading.proofs.request.head_len.Given as goal
 
 -- a head that ends ends behind the start

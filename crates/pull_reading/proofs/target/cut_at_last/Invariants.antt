@@ -1,5 +1,5 @@
 use Rattle.std.proofs.Common.{◌≤◌, length, drop}
-use Rattle.pull_reading.specs.Parsing.{IsFree}
+use Rattle.pull_reading.specs.InnerParsing.{IsFree}
 use Rattle.pull_reading.proofs.target.cut_at_last.Given as goal
 
 -- the byte does not stand from here on

@@ -1,6 +1,6 @@
 use Rattle.std.proofs.Common.{◌-◌, ◌++◌, length, drop, below_more, sym, subst, arith}
 use Rattle.std.proofs.lemmas.List.{take_all, length-drop}
-use Rattle.pull_reading.specs.Unfinished.{IsSomeRequest}
+use Rattle.pull_reading.specs.InnerUnfinished.{IsSomeRequest}
 use Rattle.pull_reading.proofs.unfinished.is_ended_by.Goals as goal
 
 pub loop-start-preserved : goal.loop-start-preserved

@@ -1,5 +1,5 @@
 use Rattle.std.proofs.Common.{ℕ, ◌<◌, ◌++◌, drop}
-use Rattle.pull_reading.specs.Unfinished.{IsSomeRequest}
+use Rattle.pull_reading.specs.InnerUnfinished.{IsSomeRequest}
 use Rattle.pull_reading.proofs.unfinished.is_ended_by.Given as goal
 
 -- no tail that was tried makes a request

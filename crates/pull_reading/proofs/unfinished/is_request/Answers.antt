@@ -1,5 +1,5 @@
 use Rattle.std.proofs.Common.{◌≡◌, ◌++◌, subst, is_some, ◌↔◌, IsTrue}
-use Rattle.pull_reading.specs.Unfinished.{IsSomeRequest}
+use Rattle.pull_reading.specs.InnerUnfinished.{IsSomeRequest}
 use Rattle.pull_reading.proofs.UnfinishedLaws.{is_some-request}
 use Rattle.pull_reading.proofs.unfinished.is_request.Goals as goal
 

@@ -1,9 +1,8 @@
+-- The proof's own: no public clause cites what stands here.
 -- How far a request reaches at the front of an input.
 use Rattle.std.specs.Prelude.{◌≡◌, ℕ, suc, ◌⊎◌, nat_eq, if◌then◌else◌, List, [], ◌∷◌, length, Option, Some, None, option_map, IsSome}
 use Rattle.std.specs.List.{starts_with}
 use Rattle.std.specs.Io.KnownBytes.{Consumes, IsAtEnd}
-use Rattle.pull_reading.specs.declared.reading.Asked.{Asked}
-use Rattle.pull_reading.specs.declared.reading.Asked.TheVariants.{Nothing, Cut}
 
 -- a line end, and a line with nothing in it
 abbrev pub blank_line : List ℕ
@@ -14,13 +13,7 @@ abbrev pub head_end : List ℕ → Option ℕ
 head_end [] = None
 head_end (b ∷ bs) = if starts_with nat_eq (b ∷ bs) blank_line then Some 3 else option_map suc (head_end bs)
 
--- A front of the input was read: it has a blank line, fills the room, or is all of the input.
-pub record ReadsFront (room : ℕ) (old new : Option (List ℕ)) (front : List ℕ) : Type 0 where
+-- A front of the input was read: it has a blank line, fills the buffer, or is all of the input.
+pub record ReadsFront (buffer : ℕ) (old new : Option (List ℕ)) (front : List ℕ) : Type 0 where
   pub consumed : Consumes old new front
-  pub decides : IsSome (head_end front) ⊎ ((length front ≡ room) ⊎ IsAtEnd new)
-
--- an input that asks for nothing since it is empty or cut was read to its end
-abbrev pub EndsInput : Option (List ℕ) → Asked → Type 0
-EndsInput left Nothing = IsAtEnd left
-EndsInput left Cut = IsAtEnd left
-EndsInput left asked = Unit {0}
+  pub decides : IsSome (head_end front) ⊎ ((length front ≡ buffer) ⊎ IsAtEnd new)

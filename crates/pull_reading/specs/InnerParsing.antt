@@ -1,3 +1,4 @@
+-- The proof's own: no public clause cites what stands here.
 -- What the parts of a request's reader find.
 use Rattle.std.specs.Prelude.{◌≡◌, ℕ, not, ◌==◌, List, ◌∷◌, ◌++◌, codes, Option, Some, None, IsTrue}
 use Rattle.std.specs.List.{list_all}

@@ -1,3 +1,4 @@
+-- The proof's own: no public clause cites what stands here.
 -- Requests that are not ended.
 use Rattle.std.specs.Prelude.{◌≢◌, ℕ, ◌<◌, List, [], ◌++◌, length, drop}
 use Rattle.pull_reading.specs.declared.ask.Ask.{Ask}
