@@ -4,65 +4,63 @@ use Rattle.std.specs.Prelude.{IsTrue, is_err}
 use Rattle.std.specs.Io.KnownBytes.{Appends}
 use Rattle.std.proofs.KnownBytes.{Appends-nil, Appends-trans}
 use Rattle.std.proofs.lemmas.List.{length-take, length-replicate, take_at}
-use Rattle.depot_api.specs.Blobs.{ReadsSome, ReadsNext}
+use Rattle.depot_api.specs.Blobs.{Rest, CountsRest, ReadsSome, ReadsNext}
 use Rattle.depot_api.specs.declared.blob.BlobFault.{BlobFault as BlobFailed}
-use Rattle.registry.specs.Answers.{HasLeft}
-use Rattle.registry.specs.Sending.{Sends, TookFront, SendsBlob}
-use Rattle.registry.specs.declared.sending.Sent.{Sent}
-use Rattle.registry.specs.declared.sending.Sent.TheVariants.{Whole, BlobFault, SinkFault}
+use Rattle.reg_run.specs.InnerAnswers.{HasLeft}
+use Rattle.reg_run.specs.Sending.{Sends, TookFront}
+use Rattle.reg_run.specs.InnerSending.{SendsBlob}
+use Rattle.reg_run.specs.declared.sending.Sent.{Sent}
+use Rattle.reg_run.specs.declared.sending.Sent.TheVariants.{Whole, BlobFault, SinkFault}
 
--- a blob that tells its bytes has as many left as it tells
-abbrev pub Counts : Bool → ℕ → List ℕ → Type 0
-Counts tells left told = IsTrue tells → left ≡ length told
+some_of : (tells : Bool) (count : ℕ) (told : List ℕ) → (IsTrue tells → count ≡ length told) → (bytes : List ℕ) × ((length bytes ≡ count) × (IsTrue tells → bytes ≡ told))
+some_of true count told h = (told, (sym (h refl), λ _. refl))
+some_of false count told h = (replicate count 0, (length-replicate count 0, λ e. cc e))
 
 -- what is left of a blob are some bytes
-pub some_left : (tells : Bool) (left : ℕ) (told : List ℕ) → Counts tells left told → (bytes : List ℕ) × HasLeft tells left told bytes
-some_left true left told h = (told, (sym (h refl), λ _. refl))
-some_left false left told h = (replicate left 0, (length-replicate left 0, λ e. cc e))
+pub some_left : (rest : Rest) → CountsRest rest → (bytes : List ℕ) × HasLeft rest bytes
+some_left rest h = some_of rest.tells rest.count rest.bytes h
 
--- a front of a blob was taken, behind which so much is left
-pub record SentFront (tells : Bool) (left : ℕ) (told : List ℕ) (start : Option (List ℕ)) (still : Bool) (left' : ℕ) (told' : List ℕ) (now : Option (List ℕ)) : Type 0 where
+-- a front of a blob was taken, behind which this is left
+pub record SentFront (whole : Rest) (start : Option (List ℕ)) (left : Rest) (now : Option (List ℕ)) : Type 0 where
   pub front : List ℕ
   pub took : Appends start now front
-  pub sum : length front + left' ≡ left
-  pub same : still ≡ tells
-  pub rest : IsTrue tells → front ++ told' ≡ told
+  pub sum : length front + left.count ≡ whole.count
+  pub same : left.tells ≡ whole.tells
+  pub rest : IsTrue whole.tells → front ++ left.bytes ≡ whole.bytes
 
-pub sent_nothing : (tells : Bool) (left : ℕ) (told : List ℕ) (start : Option (List ℕ)) → SentFront tells left told start tells left told start
-sent_nothing tells left told start = record { front = []; took = Appends-nil start; sum = omega arith; same = refl; rest = λ _. refl }
+pub sent_nothing : (whole : Rest) (start : Option (List ℕ)) → SentFront whole start whole start
+sent_nothing whole start = record { front = []; took = Appends-nil start; sum = omega arith; same = refl; rest = λ _. refl }
 
 -- a piece was read, and is the next one where the blob tells its bytes
-pub record Reads (n : ℕ) (piece : List ℕ) (tells : Bool) (left : ℕ) (told : List ℕ) (still : Bool) (left' : ℕ) (told' : List ℕ) : Type 0 where
+pub record Reads (n : ℕ) (piece : List ℕ) (before now : Rest) : Type 0 where
   pub long : length piece ≡ n
-  pub fewer : left' + n ≡ left
-  pub same : still ≡ tells
-  pub next : IsTrue tells → piece ++ told' ≡ told
+  pub fewer : now.count + n ≡ before.count
+  pub same : now.tells ≡ before.tells
+  pub next : IsTrue before.tells → piece ++ now.bytes ≡ before.bytes
 
--- the front of the room holds the piece that a read gave
-pub next_piece : (n : ℕ) (room filled told told' : List ℕ) → n ≤ length told → filled ≡ take n told ++ drop n room → told' ≡ drop n told → take n filled ++ told' ≡ told
-next_piece n room filled told told' within is rest =
+-- the front of the buffer holds the piece that a read gave
+next_piece : (n : ℕ) (buffer filled told told' : List ℕ) → n ≤ length told → filled ≡ take n told ++ drop n buffer → told' ≡ drop n told → take n filled ++ told' ≡ told
+next_piece n buffer filled told told' within is rest =
     let size : length (take n told) ≡ n = omega (arith, length-take n told, within) in
-    let piece : take n filled ≡ take n told = ap (take n) is ∙ take_at (take n told) (drop n room) n size in
+    let piece : take n filled ≡ take n told = ap (take n) is ∙ take_at (take n told) (drop n buffer) n size in
     rw (piece, rest) (take-append-drop n told)
 
-pub sent_more : (tells : Bool) (left : ℕ) (told : List ℕ) (start : Option (List ℕ)) (mid : Bool) (left' : ℕ) (told' : List ℕ) (between : Option (List ℕ)) (still : Bool) (left'' : ℕ) (told'' : List ℕ) (new : Option (List ℕ)) (n : ℕ) (piece : List ℕ)
-    → SentFront tells left told start mid left' told' between → Reads n piece mid left' told' still left'' told'' → Appends between new piece → SentFront tells left told start still left'' told'' new
-sent_more tells left told start mid left' told' between still left'' told'' new n piece s r took = record {
+pub sent_more : (whole mid left : Rest) (start between new : Option (List ℕ)) (n : ℕ) (piece : List ℕ) → SentFront whole start mid between → Reads n piece mid left → Appends between new piece → SentFront whole start left new
+sent_more whole mid left start between new n piece s r took = record {
   front = s.front ++ piece;
   took = Appends-trans start between new s.front piece s.took took;
   sum = omega (arith, length-append s.front piece, s.sum, r.long, r.fewer);
   same = r.same ∙ s.same;
-  rest = λ t. append_assoc s.front piece told'' ∙ ap (λ x. s.front ++ x) (r.next (subst IsTrue (sym s.same) t)) ∙ s.rest t;
+  rest = λ t. append_assoc s.front piece left.bytes ∙ ap (λ x. s.front ++ x) (r.next (subst IsTrue (sym s.same) t)) ∙ s.rest t;
 }
 
 -- what a read gave is the next piece
-pub read_piece : (tells : Bool) (left : ℕ) (told : List ℕ) (still : Bool) (left' : ℕ) (told' : List ℕ) (n : ℕ) (room filled : List ℕ) → ReadsSome {E = BlobFailed} (length room) left left' (Ok n) → (IsTrue tells → ReadsNext {E = BlobFailed} room filled told told' (Ok n)) → still ≡ tells → Counts tells left told → length filled ≡ length room
-    → Reads n (take n filled) tells left told still left' told'
-read_piece tells left told still left' told' n room filled count bytes same counts long = record {
+pub read_piece : (before now : Rest) (n : ℕ) (buffer filled : List ℕ) → ReadsSome {E = BlobFailed} (length buffer) before now (Ok n) → ReadsNext {E = BlobFailed} buffer filled before now (Ok n) → now.tells ≡ before.tells → CountsRest before → length filled ≡ length buffer → Reads n (take n filled) before now
+read_piece before now n buffer filled count bytes same counts long = record {
   long = omega (arith, length-take n filled, count.0, long);
   fewer = count.1;
   same = same;
-  next = λ t. next_piece n room filled told told' (omega (arith, counts t, count.1)) (bytes t).0 (bytes t).1;
+  next = λ t. next_piece n buffer filled before.bytes now.bytes (omega (arith, counts t, count.1)) (bytes t).0 (bytes t).1;
 }
 
 -- what was taken of a text, where it was told whether the sink failed
@@ -78,11 +76,10 @@ empty : (xs : List ℕ) → length xs ≡ 0 → xs ≡ []
 empty [] e = refl
 empty (x ∷ xs) e = absurd (omega (arith, e))
 
-pub sent_whole : (tells : Bool) (left : ℕ) (told : List ℕ) (start : Option (List ℕ)) (still : Bool) (left' : ℕ) (told' : List ℕ) (now : Option (List ℕ)) → SentFront tells left told start still left' told' now → Counts still left' told' → left' ≡ 0
-    → SendsBlob tells left told [] start now Whole
-sent_whole tells left told start still left' told' now s counts none = record {
+pub sent_whole : (whole left : Rest) (start now : Option (List ℕ)) → SentFront whole start left now → CountsRest left → left.count ≡ 0 → SendsBlob whole [] start now Whole
+sent_whole whole left start now s counts none = record {
   body = s.front;
-  of_blob = (omega (arith, s.sum, none), λ t. sym (append-nil s.front) ∙ ap (λ x. s.front ++ x) (sym (empty told' (sym (counts (subst IsTrue (sym s.same) t)) ∙ none))) ∙ s.rest t);
+  of_blob = (omega (arith, s.sum, none), λ t. sym (append-nil s.front) ∙ ap (λ x. s.front ++ x) (sym (empty left.bytes (sym (counts (subst IsTrue (sym s.same) t)) ∙ none))) ∙ s.rest t);
   ended = s.took;
 }
 
@@ -90,29 +87,27 @@ some_more : (xs : List ℕ) (n : ℕ) → length xs ≡ n → 0 < n → xs ≢ [
 some_more xs n long more e = let none : length xs ≡ 0 = ap length e in absurd (omega (arith, long, more, none))
 
 -- the bytes that were taken, and those that are left
-with_rest : (tells : Bool) (left : ℕ) (told : List ℕ) (start : Option (List ℕ)) (still : Bool) (left' : ℕ) (told' : List ℕ) (now : Option (List ℕ)) (rest : List ℕ) → (s : SentFront tells left told start still left' told' now) → HasLeft still left' told' rest → HasLeft tells left told (s.front ++ rest)
-with_rest tells left told start still left' told' now rest s h =
-    (omega (arith, length-append s.front rest, s.sum, h.0), λ t. ap (λ x. s.front ++ x) (h.1 (subst IsTrue (sym s.same) t)) ∙ s.rest t)
+with_rest : (whole left : Rest) (start now : Option (List ℕ)) (bytes : List ℕ) → (s : SentFront whole start left now) → HasLeft left bytes → HasLeft whole (s.front ++ bytes)
+with_rest whole left start now bytes s h =
+    (omega (arith, length-append s.front bytes, s.sum, h.0), λ t. ap (λ x. s.front ++ x) (h.1 (subst IsTrue (sym s.same) t)) ∙ s.rest t)
 
-pub sent_part : (tells : Bool) (left : ℕ) (told : List ℕ) (start : Option (List ℕ)) (still : Bool) (left' : ℕ) (told' : List ℕ) (now : Option (List ℕ)) → SentFront tells left told start still left' told' now → Counts still left' told' → 0 < left'
-    → SendsBlob tells left told [] start now BlobFault
-sent_part tells left told start still left' told' now s counts more =
-    let rest = some_left still left' told' counts in
+pub sent_part : (whole left : Rest) (start now : Option (List ℕ)) → SentFront whole start left now → CountsRest left → 0 < left.count → SendsBlob whole [] start now BlobFault
+sent_part whole left start now s counts more =
+    let rest = some_left left counts in
     record {
       body = s.front ++ rest.0;
-      of_blob = with_rest tells left told start still left' told' now rest.0 s rest.1;
-      ended = record { front = s.front; rest = rest.0; split = refl; more = some_more rest.0 left' rest.1.0 more; took = s.took };
+      of_blob = with_rest whole left start now rest.0 s rest.1;
+      ended = record { front = s.front; rest = rest.0; split = refl; more = some_more rest.0 left.count rest.1.0 more; took = s.took };
     }
 
-pub sent_front : (tells : Bool) (left : ℕ) (told : List ℕ) (start : Option (List ℕ)) (still : Bool) (left' : ℕ) (told' : List ℕ) (mid new : Option (List ℕ)) (piece : List ℕ) → SentFront tells left told start still left' told' mid → Counts still left' told'
-    → (n : ℕ) (after : Bool) (left'' : ℕ) (told'' : List ℕ) → Reads n piece still left' told' after left'' told'' → TookFront mid new piece → SendsBlob tells left told [] start new SinkFault
-sent_front tells left told start still left' told' mid new piece s counts n after left'' told'' r t =
-    let counted : Counts after left'' told'' = λ e. let was = subst IsTrue r.same e in omega (arith, ap length (r.next was), length-append piece told'', r.long, r.fewer, counts was) in
-    let rest = some_left after left'' told'' counted in
-    let whole : HasLeft still left' told' (piece ++ rest.0) = (omega (arith, length-append piece rest.0, r.long, r.fewer, rest.1.0), λ e. ap (λ x. piece ++ x) (rest.1.1 (subst IsTrue (sym r.same) e)) ∙ r.next e) in
+pub sent_front : (whole left after : Rest) (start mid new : Option (List ℕ)) (n : ℕ) (piece : List ℕ) → SentFront whole start left mid → CountsRest left → Reads n piece left after → TookFront mid new piece → SendsBlob whole [] start new SinkFault
+sent_front whole left after start mid new n piece s counts r t =
+    let counted : CountsRest after = λ e. let was = subst IsTrue r.same e in omega (arith, ap length (r.next was), length-append piece after.bytes, r.long, r.fewer, counts was) in
+    let rest = some_left after counted in
+    let more : HasLeft left (piece ++ rest.0) = (omega (arith, length-append piece rest.0, r.long, r.fewer, rest.1.0), λ e. ap (λ x. piece ++ x) (rest.1.1 (subst IsTrue (sym r.same) e)) ∙ r.next e) in
     record {
       body = s.front ++ (piece ++ rest.0);
-      of_blob = with_rest tells left told start still left' told' mid (piece ++ rest.0) s whole;
+      of_blob = with_rest whole left start mid (piece ++ rest.0) s more;
       ended = record {
         front = s.front ++ t.front;
         rest = t.rest ++ rest.0;
@@ -123,14 +118,14 @@ sent_front tells left told start still left' told' mid new piece s counts n afte
 
 -- ---- behind a head
 
-pub behind_head : (tells : Bool) (left : ℕ) (told head : List ℕ) (start mid new : Option (List ℕ)) (sent : Sent) → Appends start mid head → SendsBlob tells left told [] mid new sent → SendsBlob tells left told head start new sent
-behind_head tells left told head start mid new Whole took h = record { body = h.body; of_blob = h.of_blob; ended = Appends-trans start mid new head h.body took h.ended }
-behind_head tells left told head start mid new BlobFault took h = record {
+pub behind_head : (whole : Rest) (head : List ℕ) (start mid new : Option (List ℕ)) (sent : Sent) → Appends start mid head → SendsBlob whole [] mid new sent → SendsBlob whole head start new sent
+behind_head whole head start mid new Whole took h = record { body = h.body; of_blob = h.of_blob; ended = Appends-trans start mid new head h.body took h.ended }
+behind_head whole head start mid new BlobFault took h = record {
   body = h.body;
   of_blob = h.of_blob;
   ended = record { front = h.ended.front; rest = h.ended.rest; split = h.ended.split; more = h.ended.more; took = Appends-trans start mid new head h.ended.front took h.ended.took };
 }
-behind_head tells left told head start mid new SinkFault took h = record {
+behind_head whole head start mid new SinkFault took h = record {
   body = h.body;
   of_blob = h.of_blob;
   ended = record {
@@ -141,9 +136,9 @@ behind_head tells left told head start mid new SinkFault took h = record {
   };
 }
 
-pub cut_head : (tells : Bool) (left : ℕ) (told head : List ℕ) (old new : Option (List ℕ)) → Counts tells left told → TookFront old new head → SendsBlob tells left told head old new SinkFault
-cut_head tells left told head old new counts t =
-    let rest = some_left tells left told counts in
+pub cut_head : (whole : Rest) (head : List ℕ) (old new : Option (List ℕ)) → CountsRest whole → TookFront old new head → SendsBlob whole head old new SinkFault
+cut_head whole head old new counts t =
+    let rest = some_left whole counts in
     record {
       body = rest.0;
       of_blob = rest.1;

@@ -4,7 +4,7 @@ use Rattle.std.specs.List.{flat_map}
 use Rattle.std.proofs.Math.Seq.{take-suc}
 use Rattle.std.proofs.lemmas.List.{take_all}
 use Rattle.std.proofs.lemmas.List.Concat.{flat_map-append}
-use Rattle.registry.specs.Replies.{quoted, listed, tags_body}
+use Rattle.reg_run.specs.Replies.{quoted, listed, tags_body}
 
 -- what stands between strings and the next one
 abbrev pub comma_behind : List (List ℕ) → List ℕ

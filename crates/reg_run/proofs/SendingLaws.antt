@@ -5,7 +5,7 @@ use Rattle.std.specs.Io.KnownBytes.{Appends, Keeps}
 use Rattle.std.proofs.KnownBytes.{Appends-trans, Appends-kept}
 use Rattle.std.proofs.Math.Seq.{take-add}
 use Rattle.std.proofs.lemmas.List.{length-drop, take_all}
-use Rattle.registry.specs.Sending.{TookFront, Sends}
+use Rattle.reg_run.specs.Sending.{TookFront, Sends}
 
 -- a piece that was refused leaves the front that was taken before
 pub TookFront-refused : (start old new : Option (List ℕ)) (text : List ℕ) (n : ℕ) → Appends start old (take n text) → Keeps old new → TookFront start new text

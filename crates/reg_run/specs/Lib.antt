@@ -1,7 +1,11 @@
 pub mod Replies
+pub mod Devices
 pub mod Answers
 pub mod Statuses
 pub mod Sending
 pub mod Runs
-pub mod Words
+pub mod Arguments
 pub mod InMemory
+pub mod InnerAnswers
+pub mod InnerSending
+pub mod InnerRuns

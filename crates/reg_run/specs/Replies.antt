@@ -7,10 +7,11 @@ use Rattle.link_reading.specs.declared.manifests.StoredManifest.{StoredManifest}
 use Rattle.reg_names.specs.Kinds.{media_type_of}
 use Rattle.reg_names.specs.Digests.{digest_text}
 use Rattle.pull_reading.specs.Requests.{crlf}
-use Rattle.registry.specs.declared.reply.Reply.{Reply}
-use Rattle.registry.specs.declared.reply.Reply.TheVariants as replies
-use Rattle.registry.specs.declared.reply.Refusal.{Refusal}
-use Rattle.registry.specs.declared.reply.Refusal.TheVariants.{NameUnknown, BlobUnknown, ManifestUnknown, NotARequest, StorageFault, NoMemory}
+use Rattle.reg_run.specs.declared.reply.Reply.{Reply}
+use Rattle.reg_run.specs.declared.reply.Reply.TheVariants as replies
+use Rattle.reg_run.specs.declared.reply.Refusal.{Refusal}
+use Rattle.reg_run.specs.declared.reply.Refusal.TheVariants.{NameUnknown, BlobUnknown, ManifestUnknown}
+use Rattle.reg_run.specs.declared.reply.Refusal.TheVariants.{NotARequest, StorageFault, NoMemory}
 
 -- ---- heads
 
@@ -20,7 +21,9 @@ field name value rest = name ++ (codes ": " ++ (value ++ (crlf ++ rest)))
 
 -- the status line, the field that each reply has, and what follows them
 abbrev pub opening : List ℕ → List ℕ → List ℕ
-opening status rest = codes "HTTP/1.1 " ++ (status ++ (crlf ++ field (codes "Docker-Distribution-Api-Version") (codes "registry/2.0") rest))
+opening status rest =
+    codes "HTTP/1.1 "
+    ++ (status ++ (crlf ++ field (codes "Docker-Distribution-Api-Version") (codes "registry/2.0") rest))
 
 -- the end of the head of a reply that ends the connection, and the body
 abbrev pub closing : List ℕ → List ℕ
@@ -28,7 +31,9 @@ closing body = field (codes "Connection") (codes "close") (crlf ++ body)
 
 -- the head of a reply with content: its media type, its size and its digest
 abbrev pub content_head : List ℕ → ℕ → List ℕ → List ℕ
-content_head media_type size digest = opening (codes "200 OK") (field (codes "Content-Type") media_type (field (codes "Content-Length") (decimal size) (field (codes "Docker-Content-Digest") (digest_text digest) (closing []))))
+content_head media_type size digest =
+    opening (codes "200 OK") (field (codes "Content-Type") media_type (field (codes "Content-Length") (decimal size)
+    (field (codes "Docker-Content-Digest") (digest_text digest) (closing []))))
 
 abbrev pub manifest_head : StoredManifest → List ℕ
 manifest_head m = content_head (media_type_of m.doc.kind) (length m.bytes) m.digest
@@ -38,7 +43,9 @@ blob_head digest size = content_head (codes "application/octet-stream") size dig
 
 -- the head of a reply whose body is JSON of this size, and the body
 abbrev pub json_reply : List ℕ → List ℕ → List ℕ
-json_reply status body = opening status (field (codes "Content-Type") (codes "application/json") (field (codes "Content-Length") (decimal (length body)) (closing body)))
+json_reply status body =
+    opening status (field (codes "Content-Type") (codes "application/json")
+    (field (codes "Content-Length") (decimal (length body)) (closing body)))
 
 -- ---- bodies in JSON. Names and tags have no byte that a JSON string would escape.
 
@@ -50,21 +57,30 @@ abbrev pub listed : List (List ℕ) → List ℕ
 listed texts = join_by quoted (codes ",") texts
 
 abbrev pub tags_body : List ℕ → List (List ℕ) → List ℕ
-tags_body name tags = codes "{\"name\":\"" ++ (name ++ (codes "\",\"tags\":[" ++ (listed tags ++ codes "]}")))
+tags_body name tags =
+    codes "{\"name\":\"" ++ (name ++ (codes "\",\"tags\":[" ++ (listed tags ++ codes "]}")))
 
 -- the body of a refusal
 abbrev pub error_body : List ℕ → List ℕ → List ℕ
-error_body code message = codes "{\"errors\":[{\"code\":\"" ++ (code ++ (codes "\",\"detail\":null,\"message\":\"" ++ (message ++ codes "\"}]}")))
+error_body code message =
+    codes "{\"errors\":[{\"code\":\""
+    ++ (code ++ (codes "\",\"detail\":null,\"message\":\"" ++ (message ++ codes "\"}]}")))
 
 -- ---- replies
 
 abbrev pub refusal_wire : Refusal → List ℕ
-refusal_wire NameUnknown = json_reply (codes "404 Not Found") (error_body (codes "NAME_UNKNOWN") (codes "repository unknown"))
-refusal_wire BlobUnknown = json_reply (codes "404 Not Found") (error_body (codes "BLOB_UNKNOWN") (codes "blob unknown"))
-refusal_wire ManifestUnknown = json_reply (codes "404 Not Found") (error_body (codes "MANIFEST_UNKNOWN") (codes "manifest unknown"))
-refusal_wire NotARequest = json_reply (codes "400 Bad Request") (error_body (codes "UNSUPPORTED") (codes "not a request of this profile"))
-refusal_wire StorageFault = json_reply (codes "500 Internal Server Error") (error_body (codes "FAULT") (codes "storage fault"))
-refusal_wire NoMemory = json_reply (codes "507 Insufficient Storage") (error_body (codes "NO_MEMORY") (codes "no memory"))
+refusal_wire NameUnknown =
+    json_reply (codes "404 Not Found") (error_body (codes "NAME_UNKNOWN") (codes "repository unknown"))
+refusal_wire BlobUnknown =
+    json_reply (codes "404 Not Found") (error_body (codes "BLOB_UNKNOWN") (codes "blob unknown"))
+refusal_wire ManifestUnknown =
+    json_reply (codes "404 Not Found") (error_body (codes "MANIFEST_UNKNOWN") (codes "manifest unknown"))
+refusal_wire NotARequest =
+    json_reply (codes "400 Bad Request") (error_body (codes "UNSUPPORTED") (codes "not a request of this profile"))
+refusal_wire StorageFault =
+    json_reply (codes "500 Internal Server Error") (error_body (codes "FAULT") (codes "storage fault"))
+refusal_wire NoMemory =
+    json_reply (codes "507 Insufficient Storage") (error_body (codes "NO_MEMORY") (codes "no memory"))
 
 -- the bytes of a reply whose blob is given by its bytes
 abbrev pub wire : Reply (List ℕ) → List ℕ

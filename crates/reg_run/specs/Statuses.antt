@@ -1,7 +1,7 @@
 -- The exit statuses of the program.
 use Rattle.std.specs.Prelude.{◌≡◌, ℕ}
-use Rattle.registry.specs.declared.status.Status.{Status}
-use Rattle.registry.specs.declared.status.Status.TheVariants.{Done, Usage, Fault, NoMemory, NotARequest}
+use Rattle.reg_run.specs.declared.status.Status.{Status}
+use Rattle.reg_run.specs.declared.status.Status.TheVariants.{Done, Usage, Fault, NoMemory, NotARequest}
 
 abbrev pub code : Status → ℕ
 code Done = 0

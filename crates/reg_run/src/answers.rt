@@ -1,9 +1,13 @@
 //! What an ask is answered from a depot.
-ghost use Rattle.std.specs.Prelude.{◌≡◌, ◌≤◌, IsTrue, IfOk, IfSome, IsErrOf};
-ghost use Rattle.reg_names.specs.Cause.{Rose, HasCause};
-ghost use Rattle.reg_names.specs.declared.refused.Refused.TheVariants as refusals;
+ghost use Rattle.std.specs.Prelude.{◌≡◌, IfOk};
+ghost use Rattle.reg_names.specs.Cause.{OnlyReads};
+ghost use Rattle.reg_names.specs.Refusals.{HasFailed};
+ghost use Rattle.depot_api.specs.Holdings.{Finds, IfFound};
+ghost use Rattle.reg_names.specs.declared.reference.Reference.TheVariants as references;
 ghost use Rattle.pull_reading.specs.declared.ask.Ask.TheVariants as asks;
-ghost use Rattle.registry.specs.Answers.{FindsManifest, FindsBlob, IsLack, IsAnswer, Gives, IsSound};
+ghost use Rattle.reg_run.specs.Devices.{seen};
+ghost use Rattle.reg_run.specs.Answers.{IsAnswer};
+ghost use Rattle.reg_run.specs.InnerAnswers.{FindsReferred, FindsBlob, IsLack, HoldsWithBytes, IsSound};
 
 use crate::reply::{Refusal, Reply};
 use depot_api::Depot;
@@ -15,11 +19,10 @@ use std::alloc::Global;
 
 /// The reply to an ask. A blob in it has had no fault.
 pub fn answer<D: Depot>(alloc: Global, depot: &mut D, ask: &Ask) -> Reply<D::B>
-    ensures answer { Gives D.B.tells D.B.left D.B.bytes (IsAnswer (D.tells depot.old) (D.files depot.old) (Rose (D.faults depot.old) (D.faults depot.new)) ask.now) result }
+    ensures answer { HoldsWithBytes D.B.rest
+        (IsAnswer (seen D.held D.faults depot.old depot.new) ask.now) result }
     ensures fresh { IsSound D.B.faults result }
-    ensures files { D.files depot.new ≡ D.files depot.old }
-    ensures tells { D.tells depot.new ≡ D.tells depot.old }
-    ensures faults { D.faults depot.old ≤ D.faults depot.new }
+    ensures reads { OnlyReads D.held D.faults depot.old depot.new ⊥ }
 {
     let reply = match ask {
         Ask::Manifest(name, reference) => pull_manifest(alloc, depot, name, reference),
@@ -40,11 +43,10 @@ fn pull_manifest<D: Depot>(
     name: &Name,
     reference: &Reference,
 ) -> Result<Reply<D::B>, Refused>
-    ensures answer { IfOk result (Gives D.B.tells D.B.left D.B.bytes (IsAnswer (D.tells depot.old) (D.files depot.old) (Rose (D.faults depot.old) (D.faults depot.new)) (asks.Manifest name.now reference.now))) }
+    ensures answer { IfOk result (HoldsWithBytes D.B.rest (IsAnswer
+        (seen D.held D.faults depot.old depot.new) (asks.Manifest name.now reference.now))) }
     ensures fresh { IfOk result (IsSound D.B.faults) }
-    ensures files { D.files depot.new ≡ D.files depot.old }
-    ensures tells { D.tells depot.new ≡ D.tells depot.old }
-    ensures cause { HasCause (D.faults depot.old) (D.faults depot.new) (IsErrOf result refusals.Failed) }
+    ensures reads { OnlyReads D.held D.faults depot.old depot.new (HasFailed result) }
 {
     match find_manifest(alloc, depot, name, reference)? {
         Some(manifest) => Ok(Reply::Manifest(manifest)),
@@ -62,11 +64,10 @@ fn pull_blob<D: Depot>(
     name: &Name,
     digest: &Digest,
 ) -> Result<Reply<D::B>, Refused>
-    ensures answer { IfOk result (Gives D.B.tells D.B.left D.B.bytes (IsAnswer (D.tells depot.old) (D.files depot.old) (Rose (D.faults depot.old) (D.faults depot.new)) (asks.Blob name.now digest.now))) }
+    ensures answer { IfOk result (HoldsWithBytes D.B.rest
+        (IsAnswer (seen D.held D.faults depot.old depot.new) (asks.Blob name.now digest.now))) }
     ensures fresh { IfOk result (IsSound D.B.faults) }
-    ensures files { D.files depot.new ≡ D.files depot.old }
-    ensures tells { D.tells depot.new ≡ D.tells depot.old }
-    ensures cause { HasCause (D.faults depot.old) (D.faults depot.new) (IsErrOf result refusals.Failed) }
+    ensures reads { OnlyReads D.held D.faults depot.old depot.new (HasFailed result) }
 {
     match find_blob(alloc, depot, name, digest)? {
         Some(blob) => Ok(Reply::Blob(*digest, blob)),
@@ -79,11 +80,10 @@ fn pull_blob<D: Depot>(
 
 // The reply with the tags of a repository.
 fn list_tags<D: Depot>(alloc: Global, depot: &mut D, name: &Name) -> Result<Reply<D::B>, Refused>
-    ensures answer { IfOk result (Gives D.B.tells D.B.left D.B.bytes (IsAnswer (D.tells depot.old) (D.files depot.old) (Rose (D.faults depot.old) (D.faults depot.new)) (asks.Tags name.now))) }
+    ensures answer { IfOk result (HoldsWithBytes D.B.rest
+        (IsAnswer (seen D.held D.faults depot.old depot.new) (asks.Tags name.now))) }
     ensures fresh { IfOk result (IsSound D.B.faults) }
-    ensures files { D.files depot.new ≡ D.files depot.old }
-    ensures tells { D.tells depot.new ≡ D.tells depot.old }
-    ensures cause { HasCause (D.faults depot.old) (D.faults depot.new) (IsErrOf result refusals.Failed) }
+    ensures reads { OnlyReads D.held D.faults depot.old depot.new (HasFailed result) }
 {
     if !known(alloc, depot, name)? {
         return Ok(Reply::Refused(Refusal::NameUnknown));
@@ -99,14 +99,33 @@ fn find_manifest<D: Depot>(
     name: &Name,
     reference: &Reference,
 ) -> Result<Option<StoredManifest>, Refused>
-    ensures value { IfOk result (FindsManifest (D.tells depot.old) (D.files depot.old) name.now reference.now) }
-    ensures files { D.files depot.new ≡ D.files depot.old }
-    ensures tells { D.tells depot.new ≡ D.tells depot.old }
-    ensures cause { HasCause (D.faults depot.old) (D.faults depot.new) (IsErrOf result refusals.Failed) }
+    ensures value { IfOk result (FindsReferred (D.held depot.old) name.now reference.now) }
+    ensures reads { OnlyReads D.held D.faults depot.old depot.new (HasFailed result) }
 {
     match reference {
         Reference::Tag(tag) => manifest_by_tag(alloc, depot, name, tag),
-        Reference::Digest(digest) => manifest(alloc, depot, name, digest),
+        Reference::Digest(digest) => manifest_by_digest(alloc, depot, name, digest),
+    }
+}
+
+// The manifest that a repository has under a digest.
+fn manifest_by_digest<D: Depot>(
+    alloc: Global,
+    depot: &mut D,
+    name: &Name,
+    digest: &Digest,
+) -> Result<Option<StoredManifest>, Refused>
+    ensures value { IfOk result (
+        FindsReferred (D.held depot.old) name.now (references.Digest digest.now)) }
+    ensures reads { OnlyReads D.held D.faults depot.old depot.new (HasFailed result) }
+{
+    match manifest(alloc, depot, name, digest)? {
+        Some((doc, bytes)) => Ok(Some(StoredManifest {
+            digest: *digest,
+            doc,
+            bytes,
+        })),
+        None => Ok(None),
     }
 }
 
@@ -117,11 +136,9 @@ fn find_blob<D: Depot>(
     name: &Name,
     digest: &Digest,
 ) -> Result<Option<D::B>, Refused>
-    ensures value { IfOk result (FindsBlob D.B.tells D.B.left D.B.bytes (D.tells depot.old) (D.files depot.old) name.now digest.now) }
-    ensures fresh { IfOk result (λ found. IfSome found (λ blob. D.B.faults blob ≡ 0)) }
-    ensures files { D.files depot.new ≡ D.files depot.old }
-    ensures tells { D.tells depot.new ≡ D.tells depot.old }
-    ensures cause { HasCause (D.faults depot.old) (D.faults depot.new) (IsErrOf result refusals.Failed) }
+    ensures value { Finds (D.held depot.old) result (FindsBlob D.B.rest name.now digest.now) }
+    ensures fresh { IfFound result (λ blob. D.B.faults blob ≡ 0) }
+    ensures reads { OnlyReads D.held D.faults depot.old depot.new (HasFailed result) }
 {
     if has_layer(alloc, depot, name, digest)?.is_none() {
         return Ok(None);
@@ -137,10 +154,8 @@ fn lack<D: Depot>(
     name: &Name,
     what: Refusal,
 ) -> Result<Refusal, Refused>
-    ensures value { IfOk result (IsLack (D.tells depot.old) (D.files depot.old) name.now what) }
-    ensures files { D.files depot.new ≡ D.files depot.old }
-    ensures tells { D.tells depot.new ≡ D.tells depot.old }
-    ensures cause { HasCause (D.faults depot.old) (D.faults depot.new) (IsErrOf result refusals.Failed) }
+    ensures value { IfOk result (IsLack (D.held depot.old) name.now what) }
+    ensures reads { OnlyReads D.held D.faults depot.old depot.new (HasFailed result) }
 {
     if known(alloc, depot, name)? {
         Ok(what)

@@ -1,18 +1,18 @@
-//! The words of the command line.
+//! Command-line arguments.
 ghost use Rattle.std.specs.Prelude.{◌≡◌, Some, None, map};
 ghost use Rattle.std.specs.Option.{MatchOption};
 ghost use Rattle.std.specs.String.{string_bytes};
-ghost use Rattle.registry.specs.Words.{are_words, is_value, root_in};
+ghost use Rattle.reg_run.specs.Arguments.{are_arguments, is_value, root_in};
 
-/// What is written where the words are refused.
+/// What is written where the arguments are refused.
 pub const USAGE: &str = "usage: registry once|import|review|audit|gen|serve\n";
 
-/// Whether the words are a command with its options, each option `--x v` with a value that is not empty and does
-/// not begin with `-`.
-pub fn are_accepted(words: &[String]) -> bool
-    ensures { result ≡ are_words (map string_bytes words.now) }
+/// Whether the arguments are a command with its options, each option `--x v` with a value that is
+/// not empty and does not begin with `-`.
+pub fn are_accepted(arguments: &[String]) -> bool
+    ensures { result ≡ are_arguments (map string_bytes arguments.now) }
 {
-    match words {
+    match arguments {
         [command] => command.as_str() == "once",
         [command, option, value] => {
             command.as_str() == "once" && option.as_str() == "--root" && is_option_value(value)
@@ -21,12 +21,13 @@ pub fn are_accepted(words: &[String]) -> bool
     }
 }
 
-/// The directory that `--root` names, where the words are accepted.
-pub fn root(words: &[String]) -> Option<&str>
-    ensures { MatchOption result (root_in (map string_bytes words.now) ≡ None) (λ root. root_in (map string_bytes words.now) ≡ Some root.now) }
+/// The directory that `--root` names, where the arguments are accepted.
+pub fn root(arguments: &[String]) -> Option<&str>
+    ensures { MatchOption result (root_in (map string_bytes arguments.now) ≡ None)
+        (λ root. root_in (map string_bytes arguments.now) ≡ Some root.now) }
 {
-    match words {
-        [_, _, value] if are_accepted(words) => Some(value.as_str()),
+    match arguments {
+        [_, _, value] if are_accepted(arguments) => Some(value.as_str()),
         _ => None,
     }
 }

@@ -1,9 +1,10 @@
 //! Writing whole replies.
 ghost use Rattle.std.specs.Prelude.{◌≡◌, ◌≤◌, MatchResult};
 ghost use Rattle.reg_names.specs.Cause.{Rose};
-ghost use Rattle.registry.specs.Runs.{Delivers, DeliversBlob};
-ghost use Rattle.registry.specs.declared.reply.Reply.TheVariants as replies;
-ghost use Rattle.registry.specs.declared.status.Status.TheVariants as statuses;
+ghost use Rattle.reg_run.specs.Devices.{transfer};
+ghost use Rattle.reg_run.specs.InnerRuns.{Delivers, DeliversBlob};
+ghost use Rattle.reg_run.specs.declared.reply.Reply.TheVariants as replies;
+ghost use Rattle.reg_run.specs.declared.status.Status.TheVariants as statuses;
 
 use crate::reply::{Refusal, blob_head, manifest_head, tags_reply};
 use crate::sending::{send_with_head, write_all, write_both};
@@ -19,7 +20,8 @@ const PIECE: usize = 65_536;
 
 /// Writes the reply with a manifest, and tells the status.
 pub fn deliver_manifest<O: Sink>(alloc: Global, out: &mut O, manifest: &StoredManifest) -> Status
-    ensures ends { Delivers (replies.Manifest manifest.now) (Rose (O.faults out.old) (O.faults out.new)) (O.taken out.old) (O.taken out.new) result }
+    ensures ends { Delivers (replies.Manifest manifest.now)
+        (transfer O.taken O.faults out.old out.new) result }
     ensures faults { O.faults out.old ≤ O.faults out.new }
 {
     match manifest_head(alloc, manifest) {
@@ -33,7 +35,8 @@ pub fn deliver_manifest<O: Sink>(alloc: Global, out: &mut O, manifest: &StoredMa
 
 /// Writes the reply with the tags of a repository, and tells the status.
 pub fn deliver_tags<O: Sink>(alloc: Global, out: &mut O, name: &Name, tags: &Tags) -> Status
-    ensures ends { Delivers (replies.Tags name.now tags.now) (Rose (O.faults out.old) (O.faults out.new)) (O.taken out.old) (O.taken out.new) result }
+    ensures ends { Delivers (replies.Tags name.now tags.now)
+        (transfer O.taken O.faults out.old out.new) result }
     ensures faults { O.faults out.old ≤ O.faults out.new }
 {
     match tags_reply(alloc, name, tags) {
@@ -49,19 +52,22 @@ pub fn deliver_blob<B: Blob, O: Sink>(
     digest: &Digest,
     blob: &mut B,
 ) -> Status
-    ensures ends { DeliversBlob B.tells B.left B.bytes digest.now blob.old (Rose (B.faults blob.old) (B.faults blob.new)) (Rose (O.faults out.old) (O.faults out.new)) (O.taken out.old) (O.taken out.new) result }
+    ensures ends { DeliversBlob digest.now (B.rest blob.old)
+        (Rose (B.faults blob.old) (B.faults blob.new))
+        (transfer O.taken O.faults out.old out.new) result }
     ensures faults { O.faults out.old ≤ O.faults out.new }
 {
     let Ok(head) = blob_head(alloc, digest, blob.left()) else {
         return refuse(out, Refusal::NoMemory);
     };
-    let mut room = [0; PIECE];
-    send_with_head(out, head.as_bytes(), blob, &mut room).status()
+    let mut buffer = [0; PIECE];
+    send_with_head(out, head.as_bytes(), blob, &mut buffer).status()
 }
 
 /// Writes a refusal, and tells the status.
 pub fn refuse<O: Sink>(out: &mut O, refusal: Refusal) -> Status
-    ensures ends { Delivers (replies.Refused refusal) (Rose (O.faults out.old) (O.faults out.new)) (O.taken out.old) (O.taken out.new) result }
+    ensures ends { Delivers (replies.Refused refusal)
+        (transfer O.taken O.faults out.old out.new) result }
     ensures faults { O.faults out.old ≤ O.faults out.new }
 {
     status_after(write_all(out, refusal.wire().as_bytes()), refusal.status())

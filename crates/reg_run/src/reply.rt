@@ -1,9 +1,10 @@
 //! Replies and their bytes.
 ghost use Rattle.std.specs.Prelude.{◌≡◌, ◌++◌, IfOk};
 ghost use Rattle.std.specs.String.{string_bytes};
-ghost use Rattle.registry.specs.declared.reply.Reply.TheVariants as replies;
-ghost use Rattle.registry.specs.Runs.{status_of};
-ghost use Rattle.registry.specs.Replies.{wire, refusal_wire, quoted, listed, content_head as content_head_of, manifest_head as manifest_head_of, blob_head as blob_head_of, tags_body as tags_body_of};
+ghost use Rattle.reg_run.specs.declared.reply.Reply.TheVariants as replies;
+ghost use Rattle.reg_run.specs.Runs.{status_of};
+ghost use Rattle.reg_run.specs.Replies.{wire, refusal_wire, quoted, listed};
+ghost use Rattle.reg_run.specs.Replies.{content_head as content_head_of, manifest_head as manifest_head_of, blob_head as blob_head_of, tags_body as tags_body_of};
 
 use crate::status::Status;
 use link_reading::StoredManifest;
@@ -31,30 +32,54 @@ pub enum Refusal {
     NoMemory,
 }
 
+const NAME_UNKNOWN: &str = "\
+    HTTP/1.1 404 Not Found\r\nDocker-Distribution-Api-Version: registry/2.0\r\n\
+    Content-Type: application/json\r\nContent-Length: 81\r\nConnection: close\r\n\r\n\
+    {\"errors\":[{\"code\":\"NAME_UNKNOWN\",\"detail\":null,\
+    \"message\":\"repository unknown\"}]}";
+
+const BLOB_UNKNOWN: &str = "\
+    HTTP/1.1 404 Not Found\r\nDocker-Distribution-Api-Version: registry/2.0\r\n\
+    Content-Type: application/json\r\nContent-Length: 75\r\nConnection: close\r\n\r\n\
+    {\"errors\":[{\"code\":\"BLOB_UNKNOWN\",\"detail\":null,\
+    \"message\":\"blob unknown\"}]}";
+
+const MANIFEST_UNKNOWN: &str = "\
+    HTTP/1.1 404 Not Found\r\nDocker-Distribution-Api-Version: registry/2.0\r\n\
+    Content-Type: application/json\r\nContent-Length: 83\r\nConnection: close\r\n\r\n\
+    {\"errors\":[{\"code\":\"MANIFEST_UNKNOWN\",\"detail\":null,\
+    \"message\":\"manifest unknown\"}]}";
+
+const NOT_A_REQUEST: &str = "\
+    HTTP/1.1 400 Bad Request\r\nDocker-Distribution-Api-Version: registry/2.0\r\n\
+    Content-Type: application/json\r\nContent-Length: 91\r\nConnection: close\r\n\r\n\
+    {\"errors\":[{\"code\":\"UNSUPPORTED\",\"detail\":null,\
+    \"message\":\"not a request of this profile\"}]}";
+
+const STORAGE_FAULT: &str = "\
+    HTTP/1.1 500 Internal Server Error\r\nDocker-Distribution-Api-Version: registry/2.0\r\n\
+    Content-Type: application/json\r\nContent-Length: 69\r\nConnection: close\r\n\r\n\
+    {\"errors\":[{\"code\":\"FAULT\",\"detail\":null,\
+    \"message\":\"storage fault\"}]}";
+
+const NO_MEMORY: &str = "\
+    HTTP/1.1 507 Insufficient Storage\r\nDocker-Distribution-Api-Version: registry/2.0\r\n\
+    Content-Type: application/json\r\nContent-Length: 69\r\nConnection: close\r\n\r\n\
+    {\"errors\":[{\"code\":\"NO_MEMORY\",\"detail\":null,\
+    \"message\":\"no memory\"}]}";
+
 impl Refusal {
     /// The whole reply. It takes no memory.
     pub fn wire(self) -> &'static str
         ensures { result.now ≡ refusal_wire self }
     {
         match self {
-            Refusal::NameUnknown => {
-                "HTTP/1.1 404 Not Found\r\nDocker-Distribution-Api-Version: registry/2.0\r\nContent-Type: application/json\r\nContent-Length: 81\r\nConnection: close\r\n\r\n{\"errors\":[{\"code\":\"NAME_UNKNOWN\",\"detail\":null,\"message\":\"repository unknown\"}]}"
-            }
-            Refusal::BlobUnknown => {
-                "HTTP/1.1 404 Not Found\r\nDocker-Distribution-Api-Version: registry/2.0\r\nContent-Type: application/json\r\nContent-Length: 75\r\nConnection: close\r\n\r\n{\"errors\":[{\"code\":\"BLOB_UNKNOWN\",\"detail\":null,\"message\":\"blob unknown\"}]}"
-            }
-            Refusal::ManifestUnknown => {
-                "HTTP/1.1 404 Not Found\r\nDocker-Distribution-Api-Version: registry/2.0\r\nContent-Type: application/json\r\nContent-Length: 83\r\nConnection: close\r\n\r\n{\"errors\":[{\"code\":\"MANIFEST_UNKNOWN\",\"detail\":null,\"message\":\"manifest unknown\"}]}"
-            }
-            Refusal::NotARequest => {
-                "HTTP/1.1 400 Bad Request\r\nDocker-Distribution-Api-Version: registry/2.0\r\nContent-Type: application/json\r\nContent-Length: 91\r\nConnection: close\r\n\r\n{\"errors\":[{\"code\":\"UNSUPPORTED\",\"detail\":null,\"message\":\"not a request of this profile\"}]}"
-            }
-            Refusal::StorageFault => {
-                "HTTP/1.1 500 Internal Server Error\r\nDocker-Distribution-Api-Version: registry/2.0\r\nContent-Type: application/json\r\nContent-Length: 69\r\nConnection: close\r\n\r\n{\"errors\":[{\"code\":\"FAULT\",\"detail\":null,\"message\":\"storage fault\"}]}"
-            }
-            Refusal::NoMemory => {
-                "HTTP/1.1 507 Insufficient Storage\r\nDocker-Distribution-Api-Version: registry/2.0\r\nContent-Type: application/json\r\nContent-Length: 69\r\nConnection: close\r\n\r\n{\"errors\":[{\"code\":\"NO_MEMORY\",\"detail\":null,\"message\":\"no memory\"}]}"
-            }
+            Refusal::NameUnknown => NAME_UNKNOWN,
+            Refusal::BlobUnknown => BLOB_UNKNOWN,
+            Refusal::ManifestUnknown => MANIFEST_UNKNOWN,
+            Refusal::NotARequest => NOT_A_REQUEST,
+            Refusal::StorageFault => STORAGE_FAULT,
+            Refusal::NoMemory => NO_MEMORY,
         }
     }
 
@@ -100,7 +125,9 @@ fn content_head(
     let digest = digest.text(alloc)?;
     let digest = digest.as_str();
     Ok(Text::from_string(format!(in alloc;
-        "HTTP/1.1 200 OK\r\nDocker-Distribution-Api-Version: registry/2.0\r\nContent-Type: {media_type}\r\nContent-Length: {size}\r\nDocker-Content-Digest: {digest}\r\nConnection: close\r\n\r\n"
+        "HTTP/1.1 200 OK\r\nDocker-Distribution-Api-Version: registry/2.0\r\n\
+        Content-Type: {media_type}\r\nContent-Length: {size}\r\n\
+        Docker-Content-Digest: {digest}\r\nConnection: close\r\n\r\n"
     )?))
 }
 
@@ -111,7 +138,9 @@ pub fn tags_reply(alloc: Global, name: &Name, tags: &Tags) -> Result<Text, NoMem
     let body = tags_body(alloc, name, tags)?;
     let (length, body) = (body.len(), body.as_str());
     Ok(Text::from_string(format!(in alloc;
-        "HTTP/1.1 200 OK\r\nDocker-Distribution-Api-Version: registry/2.0\r\nContent-Type: application/json\r\nContent-Length: {length}\r\nConnection: close\r\n\r\n{body}"
+        "HTTP/1.1 200 OK\r\nDocker-Distribution-Api-Version: registry/2.0\r\n\
+        Content-Type: application/json\r\nContent-Length: {length}\r\n\
+        Connection: close\r\n\r\n{body}"
     )?))
 }
 
@@ -128,7 +157,8 @@ fn tags_body(alloc: Global, name: &Name, tags: &Tags) -> Result<String, NoMemory
 
 // Puts JSON strings behind a text, with commas between them.
 fn push_listed(body: &mut String, tags: &[Tag]) -> Result<(), NoMemory>
-    ensures { IfOk result (λ _. string_bytes body.new ≡ string_bytes body.old ++ listed tags.now) }
+    ensures { IfOk result (λ _.
+        string_bytes body.new ≡ string_bytes body.old ++ listed tags.now) }
 {
     let mut comma = "";
     for tag in tags {
@@ -141,7 +171,8 @@ fn push_listed(body: &mut String, tags: &[Tag]) -> Result<(), NoMemory>
 
 // Puts a JSON string behind a text.
 fn push_quoted(body: &mut String, text: &str) -> Result<(), NoMemory>
-    ensures { IfOk result (λ _. string_bytes body.new ≡ string_bytes body.old ++ quoted text.now) }
+    ensures { IfOk result (λ _.
+        string_bytes body.new ≡ string_bytes body.old ++ quoted text.now) }
 {
     body.push_str("\"")?;
     body.push_str(text)?;

@@ -1,19 +1,21 @@
 //! The top call.
 ghost use Rattle.std.specs.Prelude.{◌≡◌, ◌≢◌, ◌≤◌, ◌+◌, ◌↔◌, map};
 ghost use Rattle.std.specs.String.{string_bytes};
-ghost use Rattle.reg_names.specs.Cause.{Rose};
-ghost use Rattle.registry.specs.Answers.{IsAnswer};
-ghost use Rattle.registry.specs.Words.{AreWords, usage};
-ghost use Rattle.registry.specs.Statuses.{code, Exits};
-ghost use Rattle.registry.specs.Runs.{IsReply, IsSilent, IsAskless, IsNever, Ends, DeliversBlob, Writes};
-ghost use Rattle.registry.specs.declared.status.Status.TheVariants as statuses;
+ghost use Rattle.reg_names.specs.Cause.{Rose, OnlyReads};
+ghost use Rattle.pull_reading.specs.Requests.{longest_request};
+ghost use Rattle.reg_run.specs.Devices.{seen, transfer};
+ghost use Rattle.reg_run.specs.Arguments.{AreArguments, usage};
+ghost use Rattle.reg_run.specs.Statuses.{code, Exits};
+ghost use Rattle.reg_run.specs.Runs.{IsAskless, EndsRun, Writes};
+ghost use Rattle.reg_run.specs.InnerRuns.{DeliversBlob, EndsServing};
+ghost use Rattle.reg_run.specs.declared.status.Status.TheVariants as statuses;
 
 use crate::answers::answer;
+use crate::arguments::{USAGE, are_accepted};
 use crate::delivery::{deliver_blob, deliver_manifest, deliver_tags, refuse};
 use crate::reply::{Refusal, Reply};
 use crate::sending::write_all;
 use crate::status::Status;
-use crate::words::{USAGE, are_accepted};
 use depot_api::{Clock, Depot, Ids, Sink, Source};
 use pull_reading::{self, Ask, Asked, Unread};
 use reg_names::Digest;
@@ -39,27 +41,26 @@ pub fn run_plain<D: Depot, K, C: Clock, I: Ids, S: Source, O: Sink>(
     input: &mut S,
     out: &mut O,
 ) -> Ran<D, K>
-    // The words decide.
-    ensures words { (result.status ≡ code statuses.Usage) ↔ (¬ AreWords (map string_bytes words.now)) }
-    ensures usage { ¬ AreWords (map string_bytes words.now)
-        → Writes (Rose (O.faults out.old) (O.faults out.new)) (O.taken out.old) (O.taken out.new) usage }
+    // The arguments decide.
+    ensures arguments { (result.status ≡ code statuses.Usage)
+        ↔ (¬ AreArguments (map string_bytes words.now)) }
+    ensures usage { ¬ AreArguments (map string_bytes words.now)
+        → Writes (transfer O.taken O.faults out.old out.new) usage }
     // What was written, and the status.
-    ensures once { AreWords (map string_bytes words.now)
-        → Exits (Ends (IsReply (D.tells depot) (D.files depot) (Rose (D.faults depot) (D.faults result.depot)) (S.left input.old))
-        (IsSilent (S.left input.old) (S.left input.new))
-        (Rose (S.faults input.old) (S.faults input.new)) (Rose (D.faults depot) (D.faults result.depot)) (Rose (O.faults out.old) (O.faults out.new))
-        (O.taken out.old) (O.taken out.new)) result.status }
+    ensures once { AreArguments (map string_bytes words.now)
+        → Exits (EndsRun (seen D.held D.faults depot result.depot)
+        (transfer S.left S.faults input.old input.new)
+        (transfer O.taken O.faults out.old out.new)) result.status }
     // What is not needed is not touched.
-    ensures untouched { ¬ AreWords (map string_bytes words.now) → (result.depot ≡ depot) × (input.new ≡ input.old) }
+    ensures untouched { ¬ AreArguments (map string_bytes words.now)
+        → (result.depot ≡ depot) × (input.new ≡ input.old) }
     ensures idle { IsAskless (S.left input.old) → result.depot ≡ depot }
-    ensures reach { S.given input.new ≤ S.given input.old + 697 }
+    ensures reach { S.given input.new ≤ S.given input.old + longest_request }
     // The devices come back as they were, and no count falls.
-    ensures files { D.files result.depot ≡ D.files depot }
-    ensures tells { D.tells result.depot ≡ D.tells depot }
+    ensures reads { OnlyReads D.held D.faults depot result.depot ⊥ }
     ensures keeper { result.keeper ≡ keeper }
     ensures clock { clock.new ≡ clock.old }
     ensures ids { ids.new ≡ ids.old }
-    ensures depot_faults { D.faults depot ≤ D.faults result.depot }
     ensures input_faults { S.faults input.old ≤ S.faults input.new }
     ensures out_faults { O.faults out.old ≤ O.faults out.new }
 {
@@ -86,16 +87,13 @@ fn once<D: Depot, S: Source, O: Sink>(
     input: &mut S,
     out: &mut O,
 ) -> Status
-    ensures ends { Ends (IsReply (D.tells depot.old) (D.files depot.old) (Rose (D.faults depot.old) (D.faults depot.new)) (S.left input.old))
-        (IsSilent (S.left input.old) (S.left input.new))
-        (Rose (S.faults input.old) (S.faults input.new)) (Rose (D.faults depot.old) (D.faults depot.new)) (Rose (O.faults out.old) (O.faults out.new))
-        (O.taken out.old) (O.taken out.new) result }
+    ensures ends { EndsRun (seen D.held D.faults depot.old depot.new)
+        (transfer S.left S.faults input.old input.new)
+        (transfer O.taken O.faults out.old out.new) result }
     ensures status { result ≢ statuses.Usage }
     ensures idle { IsAskless (S.left input.old) → depot.new ≡ depot.old }
-    ensures reach { S.given input.new ≤ S.given input.old + 697 }
-    ensures files { D.files depot.new ≡ D.files depot.old }
-    ensures tells { D.tells depot.new ≡ D.tells depot.old }
-    ensures depot_faults { D.faults depot.old ≤ D.faults depot.new }
+    ensures reach { S.given input.new ≤ S.given input.old + longest_request }
+    ensures reads { OnlyReads D.held D.faults depot.old depot.new ⊥ }
     ensures input_faults { S.faults input.old ≤ S.faults input.new }
     ensures out_faults { O.faults out.old ≤ O.faults out.new }
 {
@@ -111,12 +109,9 @@ fn once<D: Depot, S: Source, O: Sink>(
 
 // Answers an ask, and tells the status.
 fn serve<D: Depot, O: Sink>(alloc: Global, depot: &mut D, out: &mut O, ask: &Ask) -> Status
-    ensures ends { Ends (IsAnswer (D.tells depot.old) (D.files depot.old) (Rose (D.faults depot.old) (D.faults depot.new)) ask.now)
-        IsNever ⊥ (Rose (D.faults depot.old) (D.faults depot.new)) (Rose (O.faults out.old) (O.faults out.new))
-        (O.taken out.old) (O.taken out.new) result }
-    ensures files { D.files depot.new ≡ D.files depot.old }
-    ensures tells { D.tells depot.new ≡ D.tells depot.old }
-    ensures depot_faults { D.faults depot.old ≤ D.faults depot.new }
+    ensures ends { EndsServing ask.now (seen D.held D.faults depot.old depot.new)
+        (transfer O.taken O.faults out.old out.new) result }
+    ensures reads { OnlyReads D.held D.faults depot.old depot.new ⊥ }
     ensures out_faults { O.faults out.old ≤ O.faults out.new }
 {
     match answer(alloc, depot, ask) {
@@ -136,10 +131,10 @@ fn serve_blob<D: Depot, O: Sink>(
     mut blob: D::B,
 ) -> Status
     requires { D.B.faults blob ≡ 0 }
-    ensures ends { DeliversBlob D.B.tells D.B.left D.B.bytes digest.now blob (Rose (D.faults depot.old) (D.faults depot.new)) (Rose (O.faults out.old) (O.faults out.new)) (O.taken out.old) (O.taken out.new) result }
-    ensures files { D.files depot.new ≡ D.files depot.old }
-    ensures tells { D.tells depot.new ≡ D.tells depot.old }
-    ensures depot_faults { D.faults depot.old ≤ D.faults depot.new }
+    ensures ends { DeliversBlob digest.now (D.B.rest blob)
+        (Rose (D.faults depot.old) (D.faults depot.new))
+        (transfer O.taken O.faults out.old out.new) result }
+    ensures reads { OnlyReads D.held D.faults depot.old depot.new ⊥ }
     ensures out_faults { O.faults out.old ≤ O.faults out.new }
 {
     let status = deliver_blob(alloc, out, digest, &mut blob);

@@ -1,8 +1,9 @@
 //! Writing to a sink.
 ghost use Rattle.std.specs.Prelude.{◌≡◌, ◌<◌, ◌++◌, [], length, IsErr};
 ghost use Rattle.reg_names.specs.Cause.{HasCause};
-ghost use Rattle.registry.specs.Sending.{Sends, SendsBlob, sent_status};
-ghost use Rattle.registry.specs.declared.sending.Sent.TheVariants as sent;
+ghost use Rattle.reg_run.specs.Sending.{Sends};
+ghost use Rattle.reg_run.specs.InnerSending.{SendsBlob, sent_status};
+ghost use Rattle.reg_run.specs.declared.sending.Sent.TheVariants as sent;
 
 use crate::status::Status;
 use depot_api::{Blob, Sink, SinkFault};
@@ -49,15 +50,15 @@ impl Sent {
     }
 }
 
-/// Writes a head, and behind it what is left of a blob, in pieces that fit into the room.
+/// Writes a head, and behind it what is left of a blob, in pieces that fit into the buffer.
 pub fn send_with_head<B: Blob, O: Sink>(
     out: &mut O,
     head: &[u8],
     blob: &mut B,
-    room: &mut [u8],
+    buffer: &mut [u8],
 ) -> Sent
-    requires { 0 < length room.old }
-    ensures took { SendsBlob (B.tells blob.old) (B.left blob.old) (B.bytes blob.old) head.now (O.taken out.old) (O.taken out.new) result }
+    requires { 0 < length buffer.old }
+    ensures took { SendsBlob (B.rest blob.old) head.now (O.taken out.old) (O.taken out.new) result }
     ensures blob { HasCause (B.faults blob.old) (B.faults blob.new) (result ≡ sent.BlobFault) }
     ensures sink { HasCause (O.faults out.old) (O.faults out.new) (result ≡ sent.SinkFault) }
 {
@@ -65,21 +66,21 @@ pub fn send_with_head<B: Blob, O: Sink>(
     if write_all(out, head).is_err() {
         return Sent::SinkFault;
     }
-    send_blob(out, blob, room)
+    send_blob(out, blob, buffer)
 }
 
-// Writes what is left of a blob, in pieces that fit into the room.
-fn send_blob<B: Blob, O: Sink>(out: &mut O, blob: &mut B, room: &mut [u8]) -> Sent
-    requires { 0 < length room.old }
-    ensures took { SendsBlob (B.tells blob.old) (B.left blob.old) (B.bytes blob.old) [] (O.taken out.old) (O.taken out.new) result }
+// Writes what is left of a blob, in pieces that fit into the buffer.
+fn send_blob<B: Blob, O: Sink>(out: &mut O, blob: &mut B, buffer: &mut [u8]) -> Sent
+    requires { 0 < length buffer.old }
+    ensures took { SendsBlob (B.rest blob.old) [] (O.taken out.old) (O.taken out.new) result }
     ensures blob { HasCause (B.faults blob.old) (B.faults blob.new) (result ≡ sent.BlobFault) }
     ensures sink { HasCause (O.faults out.old) (O.faults out.new) (result ≡ sent.SinkFault) }
 {
     while blob.left() > 0 {
-        let Ok(length) = blob.read(room) else {
+        let Ok(length) = blob.read(buffer) else {
             return Sent::BlobFault;
         };
-        if write_all(out, &room[..length]).is_err() {
+        if write_all(out, &buffer[..length]).is_err() {
             return Sent::SinkFault;
         }
     }

@@ -1,13 +1,13 @@
 //! How the program ends.
 ghost use Rattle.std.specs.Prelude.{◌≡◌};
-ghost use Rattle.registry.specs.Statuses.{code};
+ghost use Rattle.reg_run.specs.Statuses.{code};
 
 /// How a run ended.
 #[derive(Clone, Copy, Debug, PartialEq, Eq)]
 pub enum Status {
     /// A reply was written, or the input was empty.
     Done,
-    /// The words of the command line were refused.
+    /// The command-line arguments were refused.
     Usage,
     /// A device failed.
     Fault,

@@ -1,13 +1,11 @@
 //! Streams, the clock and the words of ids of the system.
-ghost use Rattle.std.specs.Prelude.{◌≡◌, ◌≤◌, ◌^◌};
+ghost use Rattle.std.specs.Prelude.{◌≡◌, ◌≤◌};
+ghost use Rattle.depot_api.specs.Limits.{given_limit};
 
-use depot_api::{Clock, Ids, Sink, SinkFault, Source, SourceFault};
+use depot_api::{Clock, GIVEN_LIMIT, Ids, MOMENT_LIMIT, Sink, SinkFault, Source, SourceFault};
 use std::io::{Read, Write};
 use std::random::RandomSource;
 use std::time::SystemTime;
-
-/// The largest count of bytes given, and the latest moment.
-const MOST: u64 = 1 << 62;
 
 /// A reader as a source.
 #[derive(Drop)]
@@ -15,7 +13,7 @@ pub struct ReaderSource<R> {
     reader: R,
     given: u64,
     faults: u64,
-    ghost counted: { given ≤ 2 ^ 62 },
+    ghost counted: { given ≤ given_limit },
 }
 
 impl<R: Read> ReaderSource<R> {
@@ -43,7 +41,7 @@ impl<R: Read> Source for ReaderSource<R> {
     fn read(&mut self, into: &mut [u8]) -> Result<usize, SourceFault> {
         match self.reader.read(into) {
             Ok(n) => {
-                self.given = self.given.saturating_add(n as u64).min(MOST);
+                self.given = self.given.saturating_add(n as u64).min(GIVEN_LIMIT);
                 Ok(n)
             }
             Err(_) => {
@@ -101,7 +99,7 @@ impl<R: std::rt::Clock> Clock for SystemClock<'_, R> {
     fn now(&self) -> u64 {
         match SystemTime::now(self.rt) {
             Ok(time) => match time.duration_since(SystemTime::UNIX_EPOCH) {
-                Ok(since) => since.as_secs().min(MOST),
+                Ok(since) => since.as_secs().min(MOMENT_LIMIT),
                 Err(_) => 0,
             },
             Err(_) => 0,

@@ -1,22 +1,12 @@
-//! The registry's program. `once` reads one request from standard input, answers it from a directory of link files,
-//! and writes the reply to standard output. `run_plain` promises to whoever runs it exactly what is written and which
-//! status is told, over every depot, source and sink; `main` hands it the real ones.
-//! Requests and replies are HTTP/1.1 (RFC 9112) in the profile of the OCI Distribution Specification 1.1.
+//! The registry's program: `once` reads one request from standard input, answers it from a
+//! directory of link files, and writes the reply to standard output.
+//! `reg_run::run_plain` promises exactly what is written and which status is told; here it is
+//! handed the real devices: the directory of `--root`, the standard streams, the system's clock.
+//! Requests and replies are HTTP/1.1 (RFC 9112), as in the OCI Distribution Specification 1.1.
 #![tactic(auto)]
 
-mod answers;
-mod delivery;
 mod devices;
-mod in_memory;
-mod laws;
 mod program;
-mod reply;
-mod run;
-mod sending;
-mod status;
-#[cfg(test)]
-mod tests;
-mod words;
 
 use std::process::ExitCode;
 

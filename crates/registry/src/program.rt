@@ -1,10 +1,8 @@
-//! The program over the real devices: the directory of `--root`, standard input and output, and the system's clock.
+//! The program over the real devices: the directory of `--root`, standard input and output, and the
+//! system's clock.
 use crate::devices::{ReaderSource, SystemClock, SystemIds, WriterSink};
-use crate::run::{Ran, run_plain};
-use crate::sending::write_all;
-use crate::status::Status;
-use crate::words::{self, USAGE};
 use depot_files::FileDepot;
+use reg_run::{Ran, Status, USAGE, root, run_plain, write_all};
 use std::alloc::Global;
 use std::io::{self, ErrorKind};
 use std::os::fd::AsRawFd;
@@ -17,9 +15,9 @@ pub fn run<R: Runtime + AllocGlobal + RandomSource>(rt: &R) -> u8
 where
     R::File: AsRawFd,
 {
-    match words_of(rt) {
-        Ok(words) => match words::root(&words) {
-            Some(root) => over_directory(rt, &words, root),
+    match arguments_of(rt) {
+        Ok(arguments) => match root(&arguments) {
+            Some(root) => over_directory(rt, &arguments, root),
             None => tell(rt, USAGE, Status::Usage),
         },
         Err(error) if error.kind() == ErrorKind::OutOfMemory => tell(
@@ -35,25 +33,25 @@ const DEVICE_FAULT: &str = "device fault\n";
 
 const NO_MEMORY: &str = "no memory\n";
 
-// The words behind the program's name. One that is no UTF-8 is an error.
-fn words_of<R: Runtime + AllocGlobal>(rt: &R) -> io::Result<Vec<String>> {
-    let mut words = Vec::new(rt.alloc());
-    for word in env::args(rt)?.skip(1) {
-        words.push(word)?;
+// The arguments behind the program's name. One that is no UTF-8 is an error.
+fn arguments_of<R: Runtime + AllocGlobal>(rt: &R) -> io::Result<Vec<String>> {
+    let mut arguments = Vec::new(rt.alloc());
+    for argument in env::args(rt)?.skip(1) {
+        arguments.push(argument)?;
     }
-    Ok(words)
+    Ok(arguments)
 }
 
 fn over_directory<R: Runtime + AllocGlobal + RandomSource>(
     rt: &R,
-    words: &[String],
+    arguments: &[String],
     root: &str,
 ) -> u8
 where
     R::File: AsRawFd,
 {
     match open_behind_streams(rt, root) {
-        Ok((_streams, depot)) => over_depot(rt, words, depot),
+        Ok((_streams, depot)) => over_depot(rt, arguments, depot),
         Err(error) if error.kind() == ErrorKind::OutOfMemory => tell(
             rt,
             NO_MEMORY,
@@ -65,14 +63,14 @@ where
 
 fn over_depot<R: Runtime + AllocGlobal + RandomSource>(
     rt: &R,
-    words: &[String],
+    arguments: &[String],
     depot: FileDepot<&R>,
 ) -> u8 {
     let mut input = ReaderSource::new(rt.reader());
     let mut out = WriterSink::new(io::writer(rt));
     let Ran { status, .. } = run_plain(
         rt.alloc(),
-        words,
+        arguments,
         depot,
         (),
         &mut SystemClock { rt },

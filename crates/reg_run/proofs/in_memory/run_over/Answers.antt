@@ -1,11 +1,11 @@
-use Rattle.std.proofs.Common.{arith}
-use Rattle.registry.proofs.InMemoryLaws.{still, Answers-run}
-use Rattle.registry.proofs.in_memory.run_over.Goals as goal
+use Rattle.std.proofs.Common.{arith, refl}
+use Rattle.reg_run.proofs.InMemoryLaws.{still, answers_run}
+use Rattle.reg_run.proofs.in_memory.run_over.Goals as goal
 
 pub returns : goal.returns
 returns c = λ zero empty.
-    Answers-run _ _ _ _ _ _ _ _ _
-    (still _ _ (omega (arith, zero, c.faults.ensures, c.faults-2.ensures, c.faults-3.ensures, c.saturating_add.ensures, c.saturating_add-faults.ensures)))
+    answers_run _ _ _ _ _ _ _ _ _ _ _
+    (record { held = refl; whole = still _ _ (omega (arith, zero, c.faults.ensures, c.faults-2.ensures, c.faults-3.ensures, c.saturating_add.ensures, c.saturating_add-faults.ensures)) })
     (still _ _ (omega (arith, zero, c.faults.ensures, c.faults-2.ensures, c.faults-3.ensures, c.saturating_add.ensures, c.saturating_add-faults.ensures)))
     (still _ _ (omega (arith, zero, c.faults.ensures, c.faults-2.ensures, c.faults-3.ensures, c.saturating_add.ensures, c.saturating_add-faults.ensures)))
     empty (c.run_plain-ran.ensures.once c.requires)

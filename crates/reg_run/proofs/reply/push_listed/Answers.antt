@@ -1,6 +1,6 @@
 use Rattle.std.proofs.Common.{◌<◌, ◌≤◌, [], ◌∷◌, length, sym, refl, append-nil, arith}
-use Rattle.registry.proofs.ListLaws.{push_passed, comma_passed, all_passed}
-use Rattle.registry.proofs.reply.push_listed.Goals as goal
+use Rattle.reg_run.proofs.ListLaws.{push_passed, comma_passed, all_passed}
+use Rattle.reg_run.proofs.reply.push_listed.Goals as goal
 
 pub loop-tag-init : goal.loop-tag-init
 loop-tag-init c = record {

@@ -2,9 +2,9 @@ use Rattle.std.proofs.Common.{◌≡◌, ◌++◌, take}
 use denote.Shadow.{shadow}
 use denote.Text.{Utf8}
 use Rattle.std.specs.String.{string_bytes}
-use Rattle.registry.specs.Replies.{listed}
-use Rattle.registry.proofs.ListLaws.{comma_behind}
-use Rattle.registry.proofs.reply.push_listed.Given as goal
+use Rattle.reg_run.specs.Replies.{listed}
+use Rattle.reg_run.proofs.ListLaws.{comma_behind}
+use Rattle.reg_run.proofs.reply.push_listed.Given as goal
 
 -- the strings of the tags that were passed, and what stands before the next one
 abbrev pub invariant-loop-tag : goal.invariant-loop-tag

@@ -1,5 +1,5 @@
-use Rattle.registry.proofs.ListLaws.{tags_body-whole}
-use Rattle.registry.proofs.reply.tags_body.Goals as goal
+use Rattle.reg_run.proofs.ListLaws.{tags_body-whole}
+use Rattle.reg_run.proofs.reply.tags_body.Goals as goal
 
 pub returns : goal.returns
 returns c =

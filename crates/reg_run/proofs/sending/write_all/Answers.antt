@@ -1,7 +1,7 @@
 use Rattle.std.proofs.Common.{arith, length, drop, ◌-◌}
 use Rattle.std.proofs.lemmas.List.{length-take, length-drop}
-use Rattle.registry.proofs.SendingLaws.{TookFront-refused, Sends-err, Appends-piece}
-use Rattle.registry.proofs.sending.write_all.Goals as goal
+use Rattle.reg_run.proofs.SendingLaws.{TookFront-refused, Sends-err, Appends-piece}
+use Rattle.reg_run.proofs.sending.write_all.Goals as goal
 
 pub returns-in_err-written-clause-took : goal.returns-in_err-written-clause-took
 returns-in_err-written-clause-took g c =

@@ -1,6 +1,6 @@
 use Rattle.std.proofs.Common.{◌-◌, ◌≤◌, length, take}
 use Rattle.std.specs.Io.KnownBytes.{Appends}
-use Rattle.registry.proofs.sending.write_all.Given as goal
+use Rattle.reg_run.proofs.sending.write_all.Given as goal
 
 -- the text so far was taken, and no count fell
 abbrev pub invariant-loop-written : goal.invariant-loop-written

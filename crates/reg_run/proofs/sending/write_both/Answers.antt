@@ -1,5 +1,5 @@
-use Rattle.registry.proofs.SendingLaws.{TookFront-head, Sends-err, Sends-body}
-use Rattle.registry.proofs.sending.write_both.Goals as goal
+use Rattle.reg_run.proofs.SendingLaws.{TookFront-head, Sends-err, Sends-body}
+use Rattle.reg_run.proofs.sending.write_both.Goals as goal
 
 pub returns-in_err-write_all-clause-took : goal.returns-in_err-write_all-clause-took
 returns-in_err-write_all-clause-took g c =

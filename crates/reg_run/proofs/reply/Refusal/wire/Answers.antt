@@ -1,6 +1,6 @@
 use Rattle.std.proofs.Common.{refl}
 use Rattle.std.specs.Fmt.{digits}
-use Rattle.registry.proofs.reply.Refusal.wire.Goals as goal
+use Rattle.reg_run.proofs.reply.Refusal.wire.Goals as goal
 
 pub returns-in-ManifestUnknown : goal.returns-in-ManifestUnknown
 unfolding digits
