@@ -45,7 +45,8 @@ impl Model for Feed {
 
     ghost Value = { Flow };
 
-    ghost view = { λ f. record { pending = slice_range f.buffer.items f.start f.end; taken = f.taken } };
+    ghost view = { λ f.
+        record { pending = slice_range f.buffer.items f.start f.end; taken = f.taken } };
 
     ghost invariant = { λ f. (f.start ≤ f.end) × (f.end ≤ 16384) × (length f.buffer.items ≡ 16384)
         × (length f.spans.items ≡ 8192) × (f.taken < 2 ^ 50 + 2 ^ 15)

@@ -1,8 +1,8 @@
-//! HTTP/1.1 requests, read from a stream of bytes exactly, however it is cut (RFC 9112 and RFC 9110).
-//! `read_head` reads a head, `framing` says where its body ends, `read_body` reads the decoded body,
-//! and `take_body` stages it. Each answer is proved to be what the bytes are, over any source of
-//! bytes, and each stream has one list of messages. The source is read only where what came before
-//! is not enough. A session reads its requests so; nothing but a head and a stage takes memory.
+//! HTTP/1.1 requests, read from a stream exactly, however it is cut (RFC 9110 and RFC 9112).
+//! `read_head` reads a head, `framing` says where its body ends, `read_body` reads the decoded
+//! body, and `take_body` stages it. Each answer is proved to be what the bytes are, over any source,
+//! and each stream has one list of messages. The source is read only where what came before is not
+//! enough. A session reads its requests so; nothing but a head and a stage takes memory.
 #![tactic(auto)]
 
 mod body;
