@@ -1,26 +1,23 @@
-//! Reads cases, one a line, and writes each with its answer: what the public calls of the libraries make of a text.
-//! `name a/b` asks whether `a/b` is a repository name; `cases` lists the other words and what their answers are.
-//! `let L TEXT` gives a capital letter a text. In a text, `\L` stands for that of the letter, `\9L` for nine times that,
-//! and `\xNN` for a byte. An empty line, one that begins with `#`, and a `let` are written as they are.
+//! Reads cases, one a line as `cases_lines` has them, and writes each with its answer: what the
+//! public calls of the libraries make of a text. `name a/b` asks whether `a/b` is a repository name;
+//! `answer` lists the other kinds. What is no case is written as it is.
 //! The answers in `stdout` are those of the public standards, written by hand.
 #![tactic(auto)]
 
-mod cases;
-mod letters;
+mod documents;
+mod places;
 
-use letters::Letters;
-use reg_names::NoMemory;
+use cases_lines::{Case, Letters};
+use reg_digest::digest_of;
+use reg_names::{Digest, Kind, Name, NoMemory, Reference, Tag, UploadId};
 use std::alloc::{AllocError, Global};
-use std::io;
-
-/// The answer where a line is no case.
-const NO_CASE: &str = "no case";
+use std::{io, str};
 
 fn main(rt: HostRuntime) -> io::Result<()> {
     let mut letters = Letters::new(rt.alloc());
     for line in rt.lines(rt.alloc()) {
         let line = line?;
-        match answer(rt.alloc(), &mut letters, line.as_str()).map_err(|_| AllocError)? {
+        match answered(rt.alloc(), &mut letters, line.as_str()).map_err(|_| AllocError)? {
             Some(answer) => println!(rt; "{line} => {answer}")?,
             None => println!(rt; "{line}")?,
         }
@@ -28,32 +25,84 @@ fn main(rt: HostRuntime) -> io::Result<()> {
     Ok(())
 }
 
-// The answer to a line, where it asks for one.
-fn answer(alloc: Global, letters: &mut Letters, line: &str) -> Result<Option<String>, NoMemory> {
-    let (word, text) = line.split_once(' ').unwrap_or((line, ""));
-    match word {
-        "" | "#" => Ok(None),
-        "let" => defined(alloc, letters, text),
-        kind => asked(alloc, letters, kind, text),
+// The answer to a line, where it is a case.
+fn answered(alloc: Global, letters: &mut Letters, line: &str) -> Result<Option<String>, NoMemory> {
+    match letters.read(alloc, line)? {
+        Some(Case { kind, text }) => answer(alloc, kind, text.as_slice()),
+        None => Ok(None),
     }
 }
 
-fn defined(alloc: Global, letters: &mut Letters, text: &str) -> Result<Option<String>, NoMemory> {
-    if letters.define(alloc, text)? {
-        Ok(None)
-    } else {
-        Ok(Some(String::from_str(alloc, NO_CASE)?))
+// The answer to a case, where there is such a kind.
+fn answer(alloc: Global, kind: &str, text: &[u8]) -> Result<Option<String>, NoMemory> {
+    Ok(Some(match kind {
+        "name" => yes_or_no(alloc, is_name(alloc, text)?)?,
+        "tag" => yes_or_no(alloc, Tag::read_bytes(alloc, text)?.is_some())?,
+        "digest" => yes_or_no(alloc, Digest::read_bytes(text).is_some())?,
+        "upload" => yes_or_no(alloc, UploadId::read_bytes(text)?.is_some())?,
+        "reference" => told(alloc, referred_to(alloc, text)?)?,
+        "version4" => version4(alloc, text)?,
+        "kind" => media_kind(alloc, text)?,
+        "sha256" => told(alloc, digest_of(text).text(alloc)?.as_str())?,
+        "document" => documents::answer(alloc, text)?,
+        "descriptor" => told(alloc, documents::descriptor_answer(alloc, text)?)?,
+        "stored" => documents::stored_answer(alloc, text)?,
+        "path" => places::path_answer(alloc, text)?,
+        "place" => places::answer(alloc, text)?,
+        _ => return Ok(None),
+    }))
+}
+
+fn yes_or_no(alloc: Global, is: bool) -> Result<String, NoMemory> {
+    told(alloc, if is { "yes" } else { "no" })
+}
+
+fn told(alloc: Global, answer: &str) -> Result<String, NoMemory> {
+    Ok(String::from_str(alloc, answer)?)
+}
+
+fn is_name(alloc: Global, text: &[u8]) -> Result<bool, NoMemory> {
+    match Name::read_bytes(alloc, text)? {
+        Some(name) => Ok(name.text(alloc)?.as_bytes() == text),
+        None => Ok(false),
     }
 }
 
-fn asked(
-    alloc: Global,
-    letters: &Letters,
-    kind: &str,
-    text: &str,
-) -> Result<Option<String>, NoMemory> {
-    match letters.expand(alloc, text)? {
-        Some(bytes) => Ok(Some(cases::answer(alloc, kind, bytes.as_slice())?)),
-        None => Ok(Some(String::from_str(alloc, NO_CASE)?)),
+fn referred_to(alloc: Global, text: &[u8]) -> Result<&'static str, NoMemory> {
+    let reference = match str::from_utf8(text) {
+        Ok(text) => Reference::read(alloc, text)?,
+        Err(_) => Reference::read_bytes(alloc, text)?,
+    };
+    match reference {
+        Some(reference) => copied(alloc, &reference, text),
+        None => Ok("none"),
+    }
+}
+
+// What a copy of a reference refers to, where it gives back the text.
+fn copied(alloc: Global, reference: &Reference, text: &[u8]) -> Result<&'static str, NoMemory> {
+    let copy = reference.copy(alloc)?;
+    if copy.text(alloc)?.as_bytes() != text {
+        return Ok("another text");
+    }
+    Ok(match copy {
+        Reference::Tag(_) => "tag",
+        Reference::Digest(_) => "digest",
+    })
+}
+
+// The text of the upload id that is made of sixteen bytes.
+fn version4(alloc: Global, text: &[u8]) -> Result<String, NoMemory> {
+    match <[u8; 16]>::try_from(text) {
+        Ok(bytes) => told(alloc, UploadId::of_bytes(bytes).text(alloc)?.as_str()),
+        Err(_) => told(alloc, "not sixteen bytes"),
+    }
+}
+
+// The kind of manifest whose media type a text is.
+fn media_kind(alloc: Global, text: &[u8]) -> Result<String, NoMemory> {
+    match str::from_utf8(text).ok().and_then(Kind::from_media_type) {
+        Some(kind) => Ok(format!(in alloc; "{kind:?}")?),
+        None => told(alloc, "none"),
     }
 }
