@@ -1,21 +1,51 @@
-//! What single heads ask for.
-use crate::NO_CASE;
-use crate::coming::{Coming, source_of};
-use depot_api::NoMemory;
+//! Single heads.
+use depot_api::memory::MemSource;
+use depot_api::{Bytes, NoMemory};
 use http_wire::{
-    Feed, Framing, Head, Heading, content_type, ends_connection, expects_continue, framing,
+    Feed, Field, Framing, Head, Heading, content_type, ends_connection, expects_continue, framing,
     range_start, read_head,
 };
 use std::alloc::Global;
 
+fn head_of(alloc: Global, bytes: &[u8]) -> Result<Option<Head>, NoMemory> {
+    let bytes = Bytes::from_slice(alloc, bytes)?;
+    let mut source = MemSource::new(alloc, bytes, Vec::new(alloc), Vec::new(alloc))?;
+    let mut feed = Feed::new(alloc)?;
+    match read_head(alloc, &mut feed, &mut source) {
+        Heading::Head(head) => Ok(Some(head)),
+        _ => Ok(None),
+    }
+}
+
+/// The method, the target, the minor version, and the name and the value of each field.
+pub fn parts_answer(alloc: Global, bytes: &[u8]) -> Result<Option<String>, NoMemory> {
+    match head_of(alloc, bytes)? {
+        Some(head) => Ok(Some(parts(alloc, &head)?)),
+        None => Ok(None),
+    }
+}
+
+fn parts(alloc: Global, head: &Head) -> Result<String, NoMemory> {
+    let (method, target) = (head.method.as_str(), head.target.as_str());
+    let mut text = format!(in alloc; "{method} {target} HTTP/1.{}", head.minor)?;
+    for field in head.fields.as_slice() {
+        put_field(alloc, &mut text, field)?;
+    }
+    Ok(text)
+}
+
+fn put_field(alloc: Global, text: &mut String, field: &Field) -> Result<(), NoMemory> {
+    let (name, value) = (field.name.as_str(), field.value.as_slice().escape_ascii());
+    text.push_str(format!(in alloc; ", {name} is \"{value}\"")?.as_str())?;
+    Ok(())
+}
+
 /// How the body is delimited, whether the connection ends and 100 Continue is awaited, the media
 /// type, and the start of a range.
-pub fn answer(alloc: Global, bytes: &[u8]) -> Result<String, NoMemory> {
-    let mut feed = Feed::new(alloc)?;
-    let mut source = source_of(alloc, bytes, Coming::Whole)?;
-    match read_head(alloc, &mut feed, &mut source) {
-        Heading::Head(head) => asked(alloc, &head),
-        _ => Ok(String::from_str(alloc, NO_CASE)?),
+pub fn answer(alloc: Global, bytes: &[u8]) -> Result<Option<String>, NoMemory> {
+    match head_of(alloc, bytes)? {
+        Some(head) => Ok(Some(asked(alloc, &head)?)),
+        None => Ok(None),
     }
 }
 

@@ -1,30 +1,23 @@
-//! Reads cases, one a line, and writes each with its answer, which is that of RFC 9110 and 9112.
-//! `stream` reads requests, `request` one, `asks` what a head asks for, and `stage` stages a body.
-//! `let L TEXT` gives a capital letter a text. In a text, `\L` stands for that of the letter, `\9L`
-//! for nine times that, `\r`, `\n` and `\xNN` for bytes. Other lines are written as they are.
+//! Reads cases, one a line as `cases_lines` has them, and writes each with its answer, which is that
+//! of RFC 9110 and 9112. `stream` reads requests, `head` gives the parts of a head, `asks` what it
+//! asks for, and `stage` stages a body. What is no case is written as it is.
 //! The answers in `stdout` are written by hand; whoever changes `http_wire` adds a line here.
 #![tactic(auto)]
 
-mod coming;
 mod heads;
-mod letters;
-mod reading;
 mod stages;
 mod streams;
 
+use cases_lines::{Case, Letters};
 use depot_api::NoMemory;
-use letters::Letters;
 use std::alloc::{AllocError, Global};
 use std::io;
-
-/// The answer where a line is no case.
-const NO_CASE: &str = "no case";
 
 fn main(rt: HostRuntime) -> io::Result<()> {
     let mut letters = Letters::new(rt.alloc());
     for line in rt.lines(rt.alloc()) {
         let line = line?;
-        match answer(rt.alloc(), &mut letters, line.as_str()).map_err(|_| AllocError)? {
+        match answered(rt.alloc(), &mut letters, line.as_str()).map_err(|_| AllocError)? {
             Some(answer) => println!(rt; "{line} => {answer}")?,
             None => println!(rt; "{line}")?,
         }
@@ -32,42 +25,21 @@ fn main(rt: HostRuntime) -> io::Result<()> {
     Ok(())
 }
 
-// The answer to a line, where it asks for one.
-fn answer(alloc: Global, letters: &mut Letters, line: &str) -> Result<Option<String>, NoMemory> {
-    let (word, text) = line.split_once(' ').unwrap_or((line, ""));
-    match word {
-        "" | "#" => Ok(None),
-        "let" => defined(alloc, letters, text),
-        kind => asked(alloc, letters, kind, text),
+// The answer to a line, where it is a case.
+fn answered(alloc: Global, letters: &mut Letters, line: &str) -> Result<Option<String>, NoMemory> {
+    match letters.read(alloc, line)? {
+        Some(Case { kind, text }) => answer(alloc, kind, text.as_slice()),
+        None => Ok(None),
     }
 }
 
-fn defined(alloc: Global, letters: &mut Letters, text: &str) -> Result<Option<String>, NoMemory> {
-    if letters.define(alloc, text)? {
-        Ok(None)
-    } else {
-        Ok(Some(String::from_str(alloc, NO_CASE)?))
-    }
-}
-
-fn asked(
-    alloc: Global,
-    letters: &Letters,
-    kind: &str,
-    text: &str,
-) -> Result<Option<String>, NoMemory> {
-    match letters.expand(alloc, text)? {
-        Some(bytes) => Ok(Some(case(alloc, kind, bytes.as_slice())?)),
-        None => Ok(Some(String::from_str(alloc, NO_CASE)?)),
-    }
-}
-
-fn case(alloc: Global, kind: &str, bytes: &[u8]) -> Result<String, NoMemory> {
+// The answer to a case, where there is such a kind and the text is one for it.
+fn answer(alloc: Global, kind: &str, text: &[u8]) -> Result<Option<String>, NoMemory> {
     match kind {
-        "stream" => streams::answer(alloc, bytes),
-        "request" => streams::request_answer(alloc, bytes),
-        "asks" => heads::answer(alloc, bytes),
-        "stage" => stages::answer(alloc, bytes),
-        _ => Ok(String::from_str(alloc, NO_CASE)?),
+        "stream" => Ok(Some(streams::answer(alloc, text)?)),
+        "head" => heads::parts_answer(alloc, text),
+        "asks" => heads::answer(alloc, text),
+        "stage" => stages::answer(alloc, text),
+        _ => Ok(None),
     }
 }

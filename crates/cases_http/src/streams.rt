@@ -1,108 +1,112 @@
-//! Streams of requests: each is read whole, byte by byte, cut in two, and with a read that fails.
-use crate::coming::Coming;
-use crate::reading::{Reading, read_one, read_stream};
-use depot_api::NoMemory;
+//! Streams of requests, which come byte by byte. The read behind the last byte fails, and those
+//! after it find the end.
+use depot_api::memory::MemSource;
+use depot_api::{Bytes, NoMemory};
+use http_wire::{
+    BodyReader, BodyStep, Feed, Head, Heading, MALFORMED, TOO_LARGE, ends_connection, framing,
+    read_body, read_head,
+};
 use std::alloc::Global;
 
-// A longer stream is cut in two near its ends, and at every 97th place between, and no read of it
-// fails.
-const SHORT: usize = 512;
-
-const NEAR: usize = 40;
-
-const STRIDE: usize = 97;
-
-/// The decoded bodies, each with a bar behind it, and how the requests end; and in which way the
-/// stream is read otherwise.
+/// The decoded bodies, each with a bar behind it, and how the requests end; and whether the read
+/// behind the last byte was made needlessly, or its fault was not told.
 pub fn answer(alloc: Global, bytes: &[u8]) -> Result<String, NoMemory> {
-    let whole = read_stream(alloc, bytes, Coming::Whole)?;
-    let text = String::from_utf8_lossy(alloc, &whole.text)?;
-    let ending = whole.ending.words();
-    match differing(alloc, bytes, &whole)? {
-        None => Ok(format!(in alloc; "\"{text}\" {ending}")?),
-        Some(coming) => Ok(format!(in alloc; "\"{text}\" {ending}, but {coming:?}")?),
+    let mut stream = Stream::new(alloc, bytes)?;
+    let (words, due) = match stream.read_requests(alloc)? {
+        Ending::Here(words) => (words, 0),
+        Ending::AtEnd(words) => (words, 1),
+    };
+    let (faults, told) = (stream.source.faults(), stream.told);
+    let text = String::from_utf8_lossy(alloc, &stream.text)?;
+    if faults == due && told == due {
+        Ok(format!(in alloc; "\"{text}\" {words}")?)
+    } else {
+        Ok(format!(in alloc; "\"{text}\" {words}, after {faults} faults, {told} told")?)
     }
 }
 
-// A way of coming in which the stream is read otherwise, or in which a read is made that nothing
-// may ask for.
-fn differing(alloc: Global, bytes: &[u8], whole: &Reading) -> Result<Option<Coming>, NoMemory> {
-    if !reads_so(alloc, bytes, Coming::ByteByByte, whole)? {
-        return Ok(Some(Coming::ByteByByte));
+// How the requests end: by what has come, or where no more comes, which only a read behind the last
+// byte can tell.
+enum Ending {
+    Here(&'static str),
+    AtEnd(&'static str),
+}
+
+// More than the requests, and the steps of a body, of any stream here.
+const MOST: usize = 64;
+
+#[derive(Drop)]
+struct Stream {
+    source: MemSource,
+    feed: Feed,
+    text: Vec<u8>,
+    // How often a fault of the source was told.
+    told: u64,
+}
+
+impl Stream {
+    fn new(alloc: Global, bytes: &[u8]) -> Result<Stream, NoMemory> {
+        let behind = bytes.len();
+        let bytes = Bytes::from_slice(alloc, bytes)?;
+        let pieces = vec![in alloc; 1; behind.saturating_add(1)]?;
+        let fail = vec![in alloc; behind as u64; 1]?;
+        Ok(Stream {
+            source: MemSource::new(alloc, bytes, pieces, fail)?,
+            feed: Feed::new(alloc)?,
+            text: Vec::new(alloc),
+            told: 0,
+        })
     }
-    for at in 1..bytes.len() {
-        if is_place(at, bytes.len()) && !reads_so(alloc, bytes, Coming::InTwo(at), whole)? {
-            return Ok(Some(Coming::InTwo(at)));
+
+    fn read_requests(&mut self, alloc: Global) -> Result<Ending, NoMemory> {
+        for _ in 0..MOST {
+            if let Some(ending) = self.read_request(alloc)? {
+                return Ok(ending);
+            }
+        }
+        Ok(Ending::Here("more requests"))
+    }
+
+    // Reads a request, or tells how they end.
+    fn read_request(&mut self, alloc: Global) -> Result<Option<Ending>, NoMemory> {
+        match read_head(alloc, &mut self.feed, &mut self.source) {
+            Heading::Head(head) => self.read_behind(&head),
+            Heading::End => Ok(Some(Ending::AtEnd("done"))),
+            Heading::Cut => Ok(Some(Ending::AtEnd("cut in a head"))),
+            Heading::Bad(MALFORMED) => Ok(Some(Ending::Here("malformed head"))),
+            Heading::Bad(TOO_LARGE) => Ok(Some(Ending::Here("too large a head"))),
+            Heading::Bad(_) | Heading::Long => Ok(Some(Ending::Here("refused"))),
+            Heading::SourceFault => {
+                self.told = self.told.saturating_add(1);
+                Ok(None)
+            }
+            Heading::NoMemory => Err(NoMemory),
         }
     }
-    failing(alloc, bytes, whole)
-}
 
-fn is_place(at: usize, length: usize) -> bool {
-    length < SHORT || at < NEAR || length.saturating_sub(at) < NEAR || at % STRIDE == 0
-}
+    // Reads the body behind a head, three bytes at a time.
+    fn read_behind(&mut self, head: &Head) -> Result<Option<Ending>, NoMemory> {
+        let mut body = BodyReader::new(framing(head));
+        let mut buffer = [0; 3];
+        for _ in 0..MOST {
+            match read_body(&mut self.feed, &mut self.source, &mut body, &mut buffer) {
+                BodyStep::Bytes(count) => self.text.extend_from_slice(&buffer[..count])?,
+                BodyStep::End => return self.end_request(head),
+                BodyStep::Cut => return Ok(Some(Ending::AtEnd("cut in a body"))),
+                BodyStep::Bad => return Ok(Some(Ending::Here("malformed body"))),
+                BodyStep::SourceFault => self.told = self.told.saturating_add(1),
+                BodyStep::Long => return Ok(Some(Ending::Here("refused"))),
+            }
+        }
+        Ok(Some(Ending::Here("more of a body")))
+    }
 
-fn failing(alloc: Global, bytes: &[u8], whole: &Reading) -> Result<Option<Coming>, NoMemory> {
-    let behind = Coming::WithFault(whole.needless_read(bytes.len() as u64));
-    if !reads_without_fault(alloc, bytes, behind, whole)? {
-        return Ok(Some(behind));
-    }
-    if bytes.len() >= SHORT {
-        return Ok(None);
-    }
-    for number in 0..=bytes.len() as u64 {
-        if !reads_so(alloc, bytes, Coming::WithFault(number), whole)? {
-            return Ok(Some(Coming::WithFault(number)));
+    fn end_request(&mut self, head: &Head) -> Result<Option<Ending>, NoMemory> {
+        self.text.push(b'|')?;
+        if ends_connection(head) {
+            Ok(Some(Ending::Here("closed")))
+        } else {
+            Ok(None)
         }
     }
-    Ok(None)
-}
-
-fn reads_so(
-    alloc: Global,
-    bytes: &[u8],
-    coming: Coming,
-    whole: &Reading,
-) -> Result<bool, NoMemory> {
-    Ok(read_stream(alloc, bytes, coming)?.is(whole))
-}
-
-fn reads_without_fault(
-    alloc: Global,
-    bytes: &[u8],
-    coming: Coming,
-    whole: &Reading,
-) -> Result<bool, NoMemory> {
-    let reading = read_stream(alloc, bytes, coming)?;
-    Ok(reading.is(whole) && reading.faults == 0)
-}
-
-/// Whether a single request is read whole without a read behind its last byte, and is cut at every
-/// end before that.
-pub fn request_answer(alloc: Global, bytes: &[u8]) -> Result<String, NoMemory> {
-    let reading = read_one(alloc, bytes)?;
-    let text = String::from_utf8_lossy(alloc, &reading.text)?;
-    if !reading.has_one() {
-        return Ok(format!(in alloc; "\"{text}\" with a fault behind it")?);
-    }
-    match uncut(alloc, bytes)? {
-        None => Ok(format!(in alloc; "\"{text}\" whole, else cut")?),
-        Some(end) => Ok(format!(in alloc; "\"{text}\" whole, not cut at {end}")?),
-    }
-}
-
-// An end before the last byte at which the input is not cut.
-fn uncut(alloc: Global, bytes: &[u8]) -> Result<Option<usize>, NoMemory> {
-    for end in 1..bytes.len() {
-        if !is_cut(alloc, &bytes[..end], Coming::Whole)?
-            || !is_cut(alloc, &bytes[..end], Coming::ByteByByte)?
-        {
-            return Ok(Some(end));
-        }
-    }
-    Ok(None)
-}
-
-fn is_cut(alloc: Global, bytes: &[u8], coming: Coming) -> Result<bool, NoMemory> {
-    Ok(read_stream(alloc, bytes, coming)?.is_cut())
 }
