@@ -6,32 +6,40 @@
 #![tactic(auto)]
 
 use reg_names::NoMemory;
-use std::alloc::Global;
+use std::alloc::{AllocError, Global};
 use std::collections::BTreeMap;
+use std::io;
 
-/// A case: its kind, and the bytes that its text stands for.
-#[derive(Drop)]
-pub struct Case<'l> {
-    pub kind: &'l str,
-    pub text: Vec<u8>,
+/// The cases that a program answers.
+pub trait Cases {
+    /// The answer to a case of this kind, and `None` where there is no such kind. A text is bytes.
+    fn answer(alloc: Global, kind: &str, text: &[u8]) -> Result<Option<String>, NoMemory>;
 }
 
-/// The texts of capital letters.
+/// Writes each line of the input, a case with its answer.
+pub fn answer_lines<C: Cases, R: Input + Print + AllocGlobal>(rt: &R) -> io::Result<()> {
+    let texts = BTreeMap::new(rt.alloc());
+    let mut letters = Letters { texts };
+    for line in rt.lines(rt.alloc()) {
+        let line = line?;
+        let answer = letters.answer::<C>(rt.alloc(), line.as_str());
+        match answer.map_err(|_| AllocError)? {
+            Some(answer) => println!(rt; "{line} => {answer}")?,
+            None => println!(rt; "{line}")?,
+        }
+    }
+    Ok(())
+}
+
+// The texts of capital letters.
 #[derive(Drop)]
-pub struct Letters {
+struct Letters {
     texts: BTreeMap<u8, Vec<u8>>,
 }
 
 impl Letters {
-    /// No letter has a text.
-    pub fn new(alloc: Global) -> Letters {
-        Letters {
-            texts: BTreeMap::new(alloc),
-        }
-    }
-
-    /// The case that a line is. A definition gives its letter the text.
-    pub fn read<'l>(&mut self, alloc: Global, line: &'l str) -> Result<Option<Case<'l>>, NoMemory> {
+    // The answer to a line that is a case. A definition gives its letter the text.
+    fn answer<C: Cases>(&mut self, alloc: Global, line: &str) -> Result<Option<String>, NoMemory> {
         let (kind, text) = line.split_once(' ').unwrap_or((line, ""));
         match kind {
             "" | "#" => Ok(None),
@@ -40,7 +48,7 @@ impl Letters {
                 Ok(None)
             }
             _ => match self.expand(alloc, text)? {
-                Some(text) => Ok(Some(Case { kind, text })),
+                Some(text) => C::answer(alloc, kind, text.as_slice()),
                 None => Ok(None),
             },
         }

@@ -6,8 +6,8 @@ use std::alloc::Global;
 use std::str;
 
 /// `document TEXT`: the kind of the document that the text is, the digests that it names, each by
-/// its first twelve digits and with a star where it is free, and behind a bar those of the manifests
-/// that it lists. Or the first test that it fails.
+/// its first twelve digits and with a star where it is free, and behind a bar those of the
+/// manifests that it lists. Or the first test that it fails.
 pub fn answer(alloc: Global, text: &[u8]) -> Result<String, NoMemory> {
     match read_doc(alloc, text) {
         Ok(doc) => described(alloc, &doc),

@@ -1,56 +1,43 @@
 //! Reads cases, one a line as `cases_lines` has them, and writes each with its answer: what the
-//! public calls of the libraries make of a text. `name a/b` asks whether `a/b` is a repository name;
-//! `answer` lists the other kinds. What is no case is written as it is.
+//! public calls of the libraries make of a text. `name a/b` asks whether `a/b` is a repository
+//! name; `answer` lists the other kinds. What is no case is written as it is.
 //! The answers in `stdout` are those of the public standards, written by hand.
 #![tactic(auto)]
 
 mod documents;
 mod places;
 
-use cases_lines::{Case, Letters};
+use cases_lines::{Cases, answer_lines};
 use reg_digest::digest_of;
 use reg_names::{Digest, Kind, Name, NoMemory, Reference, Tag, UploadId};
-use std::alloc::{AllocError, Global};
+use std::alloc::Global;
 use std::{io, str};
 
 fn main(rt: HostRuntime) -> io::Result<()> {
-    let mut letters = Letters::new(rt.alloc());
-    for line in rt.lines(rt.alloc()) {
-        let line = line?;
-        match answered(rt.alloc(), &mut letters, line.as_str()).map_err(|_| AllocError)? {
-            Some(answer) => println!(rt; "{line} => {answer}")?,
-            None => println!(rt; "{line}")?,
-        }
-    }
-    Ok(())
+    answer_lines::<Texts, _>(&rt)
 }
 
-// The answer to a line, where it is a case.
-fn answered(alloc: Global, letters: &mut Letters, line: &str) -> Result<Option<String>, NoMemory> {
-    match letters.read(alloc, line)? {
-        Some(Case { kind, text }) => answer(alloc, kind, text.as_slice()),
-        None => Ok(None),
-    }
-}
+struct Texts;
 
-// The answer to a case, where there is such a kind.
-fn answer(alloc: Global, kind: &str, text: &[u8]) -> Result<Option<String>, NoMemory> {
-    Ok(Some(match kind {
-        "name" => yes_or_no(alloc, is_name(alloc, text)?)?,
-        "tag" => yes_or_no(alloc, Tag::read_bytes(alloc, text)?.is_some())?,
-        "digest" => yes_or_no(alloc, Digest::read_bytes(text).is_some())?,
-        "upload" => yes_or_no(alloc, UploadId::read_bytes(text)?.is_some())?,
-        "reference" => told(alloc, referred_to(alloc, text)?)?,
-        "version4" => version4(alloc, text)?,
-        "kind" => media_kind(alloc, text)?,
-        "sha256" => told(alloc, digest_of(text).text(alloc)?.as_str())?,
-        "document" => documents::answer(alloc, text)?,
-        "descriptor" => told(alloc, documents::descriptor_answer(alloc, text)?)?,
-        "stored" => documents::stored_answer(alloc, text)?,
-        "path" => places::path_answer(alloc, text)?,
-        "place" => places::answer(alloc, text)?,
-        _ => return Ok(None),
-    }))
+impl Cases for Texts {
+    fn answer(alloc: Global, kind: &str, text: &[u8]) -> Result<Option<String>, NoMemory> {
+        Ok(Some(match kind {
+            "name" => yes_or_no(alloc, is_name(alloc, text)?)?,
+            "tag" => yes_or_no(alloc, Tag::read_bytes(alloc, text)?.is_some())?,
+            "digest" => yes_or_no(alloc, Digest::read_bytes(text).is_some())?,
+            "upload" => yes_or_no(alloc, UploadId::read_bytes(text)?.is_some())?,
+            "reference" => told(alloc, referred_to(alloc, text)?)?,
+            "version4" => version4(alloc, text)?,
+            "kind" => media_kind(alloc, text)?,
+            "sha256" => told(alloc, digest_of(text).text(alloc)?.as_str())?,
+            "document" => documents::answer(alloc, text)?,
+            "descriptor" => told(alloc, documents::descriptor_answer(alloc, text)?)?,
+            "stored" => documents::stored_answer(alloc, text)?,
+            "path" => places::path_answer(alloc, text)?,
+            "place" => places::answer(alloc, text)?,
+            _ => return Ok(None),
+        }))
+    }
 }
 
 fn yes_or_no(alloc: Global, is: bool) -> Result<String, NoMemory> {
