@@ -1,21 +1,25 @@
-//! Reads cases, one a line, and writes each with its answer: the replies to pulls over files in memory.
-//! `file PATH=TEXT` puts a file there, and `gone PATH` takes it away. `pull TARGET` asks for a target
-//! over these files, and `run TEXT` gives them any input; the answer is the status and what is written.
-//! `asks TEXT` tells what an input asks for, read at once and byte by byte. In a text, `\r` and `\n`
-//! are bytes, and `\9o` is nine times the byte `0`, `\9s` a space. The answers are written by hand.
+//! Reads cases, one a line, and answers each: the status of a run, how much it writes, and what.
+//! `file PATH=TEXT` and `gone PATH` change the files. `pull TARGET` and `run TEXT` run `once` over
+//! them, the input at once and byte by byte; `fails DEVICE CALL COMMAND TEXT` lets a device fail.
+//! In a text, `\r` and `\n` are bytes, `\9o` is nine times the byte `0`, and `\9s` nine spaces.
+//! The answers are written by hand, from RFC 9112 and the OCI Distribution Specification 1.1.
 #![tactic(auto)]
 
-mod asks;
-mod replies;
+mod fault;
+mod runs;
+mod shelf;
 mod texts;
 
 use depot_api::NoMemory;
-use replies::{Shelf, reply_to};
+use shelf::Shelf;
 use std::alloc::{AllocError, Global};
 use std::io;
 
 /// The answer where a line is no case.
 const NO_CASE: &str = "no case";
+
+/// What a line is answered, where it asks for something.
+pub type Answer = Result<Option<String>, NoMemory>;
 
 fn main(rt: HostRuntime) -> io::Result<()> {
     let mut shelf = Shelf::new(rt.alloc());
@@ -30,39 +34,35 @@ fn main(rt: HostRuntime) -> io::Result<()> {
 }
 
 // The answer to a line, where it asks for one.
-fn answer(alloc: Global, shelf: &mut Shelf, line: &str) -> Result<Option<String>, NoMemory> {
+fn answer(alloc: Global, shelf: &mut Shelf, line: &str) -> Answer {
     let (word, text) = line.split_once(' ').unwrap_or((line, ""));
-    match word {
-        "" | "#" => return Ok(None),
-        "file" => return changed(alloc, shelf.put(alloc, text)?),
-        "gone" => return changed(alloc, shelf.remove(text)),
-        _ => (),
-    }
-    match texts::expanded(alloc, text)? {
-        Some(bytes) => Ok(Some(case(alloc, shelf, word, bytes.as_slice())?)),
-        None => changed(alloc, false),
-    }
-}
-
-// No answer, where the files were changed.
-fn changed(alloc: Global, changed: bool) -> Result<Option<String>, NoMemory> {
-    if changed {
+    if changes(alloc, shelf, word, text)? {
         return Ok(None);
     }
-    Ok(Some(String::from_str(alloc, NO_CASE)?))
-}
-
-fn case(alloc: Global, shelf: &Shelf, word: &str, bytes: &[u8]) -> Result<String, NoMemory> {
-    match word {
-        "pull" => reply_to(
-            alloc,
-            shelf,
-            &[b"GET /v2/", bytes, BEHIND_TARGET].concat(alloc)?,
-        ),
-        "run" => reply_to(alloc, shelf, bytes),
-        "asks" => asks::answer(alloc, bytes),
-        _ => Ok(String::from_str(alloc, NO_CASE)?),
+    match case(alloc, shelf, word, text)? {
+        Some(answer) => Ok(Some(answer)),
+        None => Ok(Some(String::from_str(alloc, NO_CASE)?)),
     }
 }
 
-const BEHIND_TARGET: &[u8] = b" HTTP/1.1\r\nHost: r\r\nConnection: close\r\n\r\n";
+// Whether a line is a comment, or changes the files.
+fn changes(alloc: Global, shelf: &mut Shelf, word: &str, text: &str) -> Result<bool, NoMemory> {
+    match word {
+        "" | "#" => Ok(true),
+        "file" => shelf.put(alloc, text),
+        "gone" => Ok(shelf.remove(text)),
+        _ => Ok(false),
+    }
+}
+
+fn case(alloc: Global, shelf: &Shelf, word: &str, text: &str) -> Answer {
+    match word {
+        "pull" => Ok(Some(runs::once(alloc, shelf, &texts::request_for(alloc, text)?)?)),
+        "run" => match texts::expanded(alloc, text)? {
+            Some(input) => Ok(Some(runs::once(alloc, shelf, &input)?)),
+            None => Ok(None),
+        },
+        "fails" => runs::failing(alloc, shelf, text),
+        _ => Ok(None),
+    }
+}

@@ -1,5 +1,5 @@
-//! Texts with spelled bytes: `\r`, `\n`, `\s` for a space and `\o` for `0`, each behind a number for
-//! so many of it.
+//! Requests, and texts with spelled bytes: `\r`, `\n`, `\s` for a space and `\o` for `0`, each behind
+//! a number for so many of it.
 use depot_api::NoMemory;
 use std::alloc::Global;
 
@@ -36,4 +36,12 @@ fn spelled_bytes(piece: &str) -> Option<(usize, u8, &str)> {
         digits.parse().ok()?
     };
     Some((times, byte, plain))
+}
+
+/// The request for a target.
+pub fn request_for(alloc: Global, target: &str) -> Result<Vec<u8>, NoMemory> {
+    let text = format!(in alloc;
+        "GET /v2/{target} HTTP/1.1\r\nHost: r\r\nConnection: close\r\n\r\n"
+    )?;
+    Ok(Vec::from_slice(alloc, text.as_bytes())?)
 }

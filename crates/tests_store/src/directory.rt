@@ -5,25 +5,16 @@ use std::fs;
 use std::os::unix::fs::symlink;
 use std::test::Fail;
 
-mod blobs;
 mod contents;
 mod pages;
-mod roots;
 mod swaps;
 
-/// What lies at a path: a file with these bytes, no file, or what is a fault.
-type Told = Result<Option<&'static str>, Refused>;
-
-const FAULT: Told = Err(Refused::Failed);
-
 /// Files, and the bytes of each.
-const FILES: [(&str, &str); 11] = [
+const FILES: [(&str, &str); 9] = [
     ("a/b/c", "in c"),
     ("a/b/d", "in d"),
     ("a/b.c", "hello"),
     ("a/c", ""),
-    ("a.b", "x"),
-    ("ab/a", "x"),
     ("b", "x"),
     ("to_file/x", "x"),
     ("out/x", "x"),
@@ -46,36 +37,24 @@ fn path(alloc: Global, text: &str) -> Result<Path, Fail> {
     Ok(Path::read(alloc, text)?.ok_or("no path")?)
 }
 
-fn remove(rt: &HostRuntime, folder: &str) -> Result<(), Fail> {
-    if fs::exists(rt, folder)? {
-        fs::remove_dir_all(rt, folder)?;
+// Makes the root `test/root`, and beside it what lies outside. What an earlier run left there goes.
+fn make(rt: &HostRuntime, test: &str) -> Result<(), Fail> {
+    let _ = fs::remove_dir_all(rt, test);
+    for (file, bytes) in FILES {
+        let file = format!(in rt.alloc(); "{test}/root/{file}")?;
+        write(rt, file.as_str(), bytes)?;
+    }
+    for (link, held) in LINKS {
+        let link = format!(in rt.alloc(); "{test}/root/{link}")?;
+        symlink(rt, held, link.as_str())?;
     }
     Ok(())
 }
 
-fn write_below(rt: &HostRuntime, root: &str, file: &str, bytes: &str) -> Result<(), Fail> {
-    let file = format!(in rt.alloc(); "{root}/{file}")?;
+// Writes a file, and makes the folders above it.
+fn write(rt: &HostRuntime, file: &str, bytes: &str) -> Result<(), Fail> {
     if let Some((folder, _)) = file.rsplit_once('/') {
         fs::create_dir_all(rt, folder)?;
     }
-    Ok(fs::write(rt, file.as_str(), bytes)?)
-}
-
-fn link_below(rt: &HostRuntime, root: &str, link: &str, held: &str) -> Result<(), Fail> {
-    let link = format!(in rt.alloc(); "{root}/{link}")?;
-    Ok(symlink(rt, held, link.as_str())?)
-}
-
-// Makes the root `test/root`, and beside it what lies outside.
-fn make(rt: &HostRuntime, test: &str) -> Result<(), Fail> {
-    remove(rt, test)?;
-    let root = format!(in rt.alloc(); "{test}/root")?;
-    fs::create_dir_all(rt, root.as_str())?;
-    for (file, bytes) in FILES {
-        write_below(rt, root.as_str(), file, bytes)?;
-    }
-    for (link, held) in LINKS {
-        link_below(rt, root.as_str(), link, held)?;
-    }
-    Ok(())
+    Ok(fs::write(rt, file, bytes)?)
 }

@@ -1,116 +1,103 @@
-//! Each kind of file at each kind of place, as sizes, small files and blobs tell it.
+//! Each kind of file at each kind of place, and each kind of root.
+use super::pages::{FAILS, is_page};
 use super::*;
 use depot_api::{Blob, Depot, Small};
 use depot_files::{FileBlob, FileDepot};
 use std::fs::File;
+use std::io::ErrorKind;
 
-const TOLD: [(&str, Told); 22] = [
-    ("a/b.c", Ok(Some("hello"))),
-    ("a/b/c", Ok(Some("in c"))),
-    ("a/c", Ok(Some(""))),
-    ("b", Ok(Some("x"))),
-    ("a", Ok(None)),
-    ("a/b", Ok(None)),
-    ("a/d", Ok(None)),
-    ("c/d", Ok(None)),
-    ("a/c/d", Ok(None)),
-    ("to_file/x", Ok(Some("x"))),
-    ("to_file/link", FAULT),
-    ("to_file/link/x", FAULT),
-    ("to_folder", FAULT),
-    ("to_folder/c", FAULT),
-    ("to_folder/b/c", FAULT),
-    ("out/link", FAULT),
-    ("to_outside", FAULT),
-    ("to_outside/secret", FAULT),
-    ("torn/link", FAULT),
-    ("torn/link/x", FAULT),
-    ("loop", FAULT),
-    ("loop/x", FAULT),
+/// What lies at a path: a file with these bytes, no file, or what is a fault.
+type Told = Result<Option<&'static str>, Refused>;
+
+const FAULT: Told = Err(Refused::Failed);
+
+/// What lies at a path, and the page of the files that begin with it.
+const TOLD: [(&str, Told, &str); 23] = [
+    ("b", Ok(Some("x")), "b"),
+    ("a/b.c", Ok(Some("hello")), "a/b.c"),
+    ("a/b/c", Ok(Some("in c")), "a/b/c"),
+    ("a/c", Ok(Some("")), "a/c"),
+    ("a", Ok(None), "a/b/c a/b/d a/b.c a/c"),
+    ("a/b", Ok(None), "a/b/c a/b/d"),
+    ("a/d", Ok(None), ""),
+    ("c/d", Ok(None), ""),
+    ("a/c/d", Ok(None), ""),
+    ("to_file", Ok(None), FAILS),
+    ("to_file/x", Ok(Some("x")), "to_file/x"),
+    ("to_file/link", FAULT, FAILS),
+    ("to_file/link/x", FAULT, FAILS),
+    ("to_folder", FAULT, FAILS),
+    ("to_folder/c", FAULT, FAILS),
+    ("to_folder/b/c", FAULT, FAILS),
+    ("out", Ok(None), FAILS),
+    ("out/link", FAULT, FAILS),
+    ("to_outside/secret", FAULT, FAILS),
+    ("torn", Ok(None), FAILS),
+    ("torn/link", FAULT, FAILS),
+    ("torn/link/x", FAULT, FAILS),
+    ("loop", FAULT, FAILS),
 ];
 
 #[test]
 fn each_kind_of_file_is_told_at_each_kind_of_place(rt: HostRuntime) -> Result<(), Fail> {
     make(&rt, "kinds")?;
-    for (at, told) in TOLD {
-        assert!(rt; is_told(&rt, "kinds/root", at, told)?, "{at}");
+    for (at, told, page) in TOLD {
+        assert!(rt; is_told(&rt, at, told, page)?, "{at}");
     }
-    remove(&rt, "kinds")
+    Ok(fs::remove_dir_all(&rt, "kinds")?)
 }
-
-const SMALL: [(&str, u64, &str); 4] = [
-    ("a/b.c", 5, "hello"),
-    ("a/b.c", u64::MAX, "hello"),
-    ("a/b.c", 4, "(too long)"),
-    ("a/c", 0, ""),
-];
 
 #[test]
-fn a_small_file_is_told_whole_or_too_long(rt: HostRuntime) -> Result<(), Fail> {
-    make(&rt, "small")?;
-    for (at, most, content) in SMALL {
-        assert!(rt;
-            is_small(&rt, "small/root", at, most, content)?,
-            "{at} up to {most}"
-        );
+fn a_root_is_a_folder(rt: HostRuntime) -> Result<(), Fail> {
+    make(&rt, "roots")?;
+    for (root, refused) in [
+        ("roots/root/to_folder", None),
+        ("roots/root/b", Some(ErrorKind::NotADirectory)),
+        ("roots/root/none", Some(ErrorKind::NotFound)),
+    ] {
+        let error = FileDepot::open(&rt, root).err();
+        assert_eq!(rt; error.map(|error| error.kind()), refused, "{root}");
     }
-    remove(&rt, "small")
+    Ok(fs::remove_dir_all(&rt, "roots")?)
 }
 
-fn is_told(rt: &HostRuntime, root: &str, at: &str, told: Told) -> Result<bool, Fail> {
-    let at = path(rt.alloc(), at)?;
-    let mut depot = FileDepot::open(rt, root)?;
-    let is_told = has_size(rt.alloc(), &mut depot, &at, told)
-        && has_content(rt.alloc(), &mut depot, &at, told)
-        && has_blob(rt.alloc(), &mut depot, &at, told);
-    Ok(is_told && depot.faults() == if told.is_err() { 3 } else { 0 })
+fn is_told(rt: &HostRuntime, at: &str, told: Told, page: &str) -> Result<bool, Fail> {
+    let path = path(rt.alloc(), at)?;
+    let mut depot = FileDepot::open(rt, "kinds/root")?;
+    let size = told.map(|found| found.map(|bytes| bytes.len() as u64));
+    let is_told = depot.size(rt.alloc(), &path) == size
+        && is_small(rt.alloc(), &mut depot, &path, told)
+        && is_blob(rt.alloc(), &mut depot, &path, told);
+    Ok(is_told && is_page(rt.alloc(), &mut depot, at, "", 9, page)?)
 }
 
-fn has_size(alloc: Global, depot: &mut FileDepot<&HostRuntime>, at: &Path, told: Told) -> bool {
-    depot.size(alloc, at) == told.map(|found| found.map(|text| text.len() as u64))
-}
+/// The length of `a/b/c`, one below that of `a/b.c`.
+const MOST: u64 = 4;
 
-fn has_content(alloc: Global, depot: &mut FileDepot<&HostRuntime>, at: &Path, told: Told) -> bool {
-    match (depot.read_small(alloc, at, 9), told) {
-        (Ok(Small::Content(bytes)), Ok(Some(text))) => bytes.as_slice() == text.as_bytes(),
-        (Ok(Small::Absent), Ok(None)) => true,
-        (Err(error), Err(told)) => error == told,
+fn is_small(alloc: Global, depot: &mut FileDepot<&HostRuntime>, at: &Path, told: Told) -> bool {
+    match (depot.read_small(alloc, at, MOST), told) {
+        (Ok(Small::Content(found)), Ok(Some(bytes))) => found.as_slice() == bytes.as_bytes(),
+        (Ok(Small::TooLong), Ok(Some(bytes))) => bytes.len() as u64 > MOST,
+        (Ok(Small::Absent), Ok(None)) | (Err(Refused::Failed), Err(_)) => true,
         _ => false,
     }
 }
 
-fn has_blob(alloc: Global, depot: &mut FileDepot<&HostRuntime>, at: &Path, told: Told) -> bool {
+fn is_blob(alloc: Global, depot: &mut FileDepot<&HostRuntime>, at: &Path, told: Told) -> bool {
     match (depot.fetch(alloc, at), told) {
-        (Ok(Some(blob)), Ok(Some(text))) => holds(blob, text),
-        (Ok(None), Ok(None)) => true,
-        (Err(error), Err(told)) => error == told,
+        (Ok(Some(blob)), Ok(Some(bytes))) => gives(blob, bytes.as_bytes()),
+        (Ok(None), Ok(None)) | (Err(Refused::Failed), Err(_)) => true,
         _ => false,
     }
 }
 
-// Whether a blob gives the bytes of a text in pieces of three, and then none.
-fn holds(mut blob: FileBlob<File>, text: &str) -> bool {
+// Whether a blob gives these bytes in pieces of three, and then none.
+fn gives(mut blob: FileBlob<File>, bytes: &[u8]) -> bool {
     let mut buffer = [0; 3];
-    for piece in text.as_bytes().chunks(3) {
+    for piece in bytes.chunks(3) {
         if blob.read(&mut buffer) != Ok(piece.len()) || !buffer.starts_with(piece) {
             return false;
         }
     }
-    blob.left() == 0 && blob.read(&mut buffer) == Ok(0)
-}
-
-fn is_small(
-    rt: &HostRuntime,
-    root: &str,
-    at: &str,
-    most: u64,
-    content: &str,
-) -> Result<bool, Fail> {
-    let at = path(rt.alloc(), at)?;
-    let mut depot = FileDepot::open(rt, root)?;
-    Ok(match depot.read_small(rt.alloc(), &at, most)? {
-        Small::Content(bytes) => bytes.as_slice() == content.as_bytes(),
-        Small::TooLong => content == "(too long)",
-        Small::Absent => false,
-    })
+    blob.read(&mut buffer) == Ok(0)
 }

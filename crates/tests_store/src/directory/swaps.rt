@@ -1,6 +1,6 @@
 //! A file in whose place another one comes between the look at it and its opening.
 use super::*;
-use depot_api::{Depot, Small};
+use depot_api::Depot;
 use depot_files::FileDepot;
 use std::alloc::Allocator;
 use std::fs::{File, Metadata, OpenOptions};
@@ -16,15 +16,15 @@ fn a_link_in_the_place_of_a_file_is_a_fault(rt: HostRuntime) -> Result<(), Fail>
         make(&rt, "swaps")?;
         assert!(rt; fails_over(&rt, held)?, "{held}");
     }
-    remove(&rt, "swaps")
+    Ok(fs::remove_dir_all(&rt, "swaps")?)
 }
 
 // Whether a small file is a fault that a link is put over just before it is opened.
 fn fails_over(rt: &HostRuntime, held: &str) -> Result<bool, Fail> {
     let at = path(rt.alloc(), "out/x")?;
-    let mut depot = FileDepot::open(Swapping { rt, held }, "swaps/root")?;
-    let small = depot.read_small(rt.alloc(), &at, 9);
-    Ok(matches!(small, Err(Refused::Failed)) && depot.faults() == 1)
+    let swapping = (Swapping { rt, held }, rt.alloc());
+    let mut depot = FileDepot::open(swapping, "swaps/root")?;
+    Ok(matches!(depot.read_small(rt.alloc(), &at, 9), Err(Refused::Failed)))
 }
 
 /// A system that puts a link over each file that is opened.
@@ -33,14 +33,6 @@ struct Swapping<'a> {
     rt: &'a HostRuntime,
     /// What the link holds.
     held: &'a str,
-}
-
-impl Alloc for Swapping<'_> {
-    type A = Global;
-
-    fn alloc(&self) -> Global {
-        self.rt.alloc()
-    }
 }
 
 impl Files for Swapping<'_> {

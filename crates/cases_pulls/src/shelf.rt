@@ -1,15 +1,8 @@
-//! Files in memory, and replies over them.
+//! Files in memory.
 use crate::texts::expanded;
 use depot_api::{Bytes, NoMemory, Path};
-use reg_run::in_memory::pull;
 use std::alloc::Global;
 use std::collections::BTreeMap;
-
-/// As many bytes are shown of a reply, and of the others how many there are.
-const SHOWN: usize = 1_000;
-
-/// As many bytes a reply may have.
-const MOST: usize = 5_000_000;
 
 /// Files by the texts of their paths.
 #[derive(Drop)]
@@ -42,7 +35,8 @@ impl Shelf {
         self.files.remove(path).is_some()
     }
 
-    fn as_files(&self, alloc: Global) -> Result<Vec<(Path, Bytes)>, NoMemory> {
+    /// All files.
+    pub fn files(&self, alloc: Global) -> Result<Vec<(Path, Bytes)>, NoMemory> {
         let mut files = Vec::new(alloc);
         for (path, content) in &self.files {
             if let Some(path) = Path::read(alloc, path.as_str())? {
@@ -51,25 +45,4 @@ impl Shelf {
         }
         Ok(files)
     }
-}
-
-/// The status of a run on an input, and what it writes.
-pub fn reply_to(alloc: Global, shelf: &Shelf, input: &[u8]) -> Result<String, NoMemory> {
-    let input = Bytes::from_slice(alloc, input)?;
-    let pulled = pull(alloc, shelf.as_files(alloc)?, input, MOST)?;
-    let (status, written) = (pulled.status, pulled.written.as_slice());
-    let mut answer = format!(in alloc; "{status} ")?;
-    for byte in written.iter().take(SHOWN) {
-        match byte {
-            b'\r' => answer.push_str("\\r")?,
-            b'\n' => answer.push_str("\\n")?,
-            _ => answer.push(*byte as char)?,
-        }
-    }
-    if written.len() > SHOWN {
-        let more = written.len() - SHOWN;
-        let end = format!(in alloc; ", and {more} bytes")?;
-        answer.push_str(end.as_str())?;
-    }
-    Ok(answer)
 }
