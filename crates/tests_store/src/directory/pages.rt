@@ -7,16 +7,14 @@ use depot_files::FileDepot;
 pub const FAILS: &str = "(fault)";
 
 /// Walks below `a`: behind which path one begins, if any, the most paths of a page, and the pages.
-const WALKS: [(&str, usize, &str); 9] = [
+const WALKS: [(&str, usize, &str); 7] = [
     ("", 1, "a/b/c|a/b/d|a/b.c|a/c|"),
     ("", 3, "a/b/c a/b/d a/b.c|a/c"),
     ("Z", 9, "a/b/c a/b/d a/b.c a/c"),
     ("a/b", 9, "a/b/c a/b/d a/b.c a/c"),
     ("a/b/c", 9, "a/b/d a/b.c a/c"),
     ("a/b/cc", 9, "a/b/d a/b.c a/c"),
-    ("a/b/d", 9, "a/b.c a/c"),
     ("a/b/d/e", 9, "a/b.c a/c"),
-    ("a/b.c", 9, "a/c"),
 ];
 
 #[test]
@@ -28,13 +26,16 @@ fn pages_are_the_next_files_in_order(rt: HostRuntime) -> Result<(), Fail> {
     Ok(fs::remove_dir_all(&rt, "walks")?)
 }
 
-// Whether such pages follow each other, each behind the last path of the one before it.
+// Whether such pages follow each other, each behind the last path of the one before it, and twice,
+// so that a walk goes on and another begins at the same place.
 fn are_pages(rt: &HostRuntime, after: &str, most: usize, pages: &str) -> Result<bool, Fail> {
     let mut depot = FileDepot::open(rt, "walks/root")?;
     let mut last = None;
     for page in pages.split('|') {
         let after = last.unwrap_or(after);
-        if !is_page(rt.alloc(), &mut depot, "a", after, most, page)? {
+        if !is_page(rt.alloc(), &mut depot, "a", after, most, page)?
+            || !is_page(rt.alloc(), &mut depot, "a", after, most, page)?
+        {
             return Ok(false);
         }
         last = page.rsplit(' ').next();
