@@ -5,8 +5,8 @@ use depot_api::memory::{MemDepot, MemSink, MemSource};
 use depot_api::{Bytes, NoMemory};
 use std::alloc::{AllocError, Global};
 
-/// What fails: the call of this number, from 0, of the `depot`, of a `blob`, of the `sink`, or of the
-/// `source`, which then gives its bytes one by one; or a sink with `space` for so many bytes.
+/// What fails: the call of this number, from 0, of the `depot`, of a `blob`, of the `sink`, or of
+/// the `source`, which then gives its bytes one by one; or a sink with `space` for so many bytes.
 #[derive(Clone, Copy)]
 pub struct Fault<'a> {
     pub device: &'a str,

@@ -1,5 +1,5 @@
-//! Requests, and texts with spelled bytes: `\r`, `\n`, `\s` for a space and `\o` for `0`, each behind
-//! a number for so many of it.
+//! Requests, and texts with spelled bytes: `\r`, `\n`, `\s` for a space and `\o` for `0`, each
+//! behind a number for so many of it.
 use depot_api::NoMemory;
 use std::alloc::Global;
 
