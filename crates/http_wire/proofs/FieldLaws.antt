@@ -1,15 +1,12 @@
 -- Laws of fields and of their values.
-use Rattle.std.proofs.Common.{◌≡◌, ◌≢◌, ℕ, suc, ◌+◌, ◌-◌, ◌<◌, ◌≤◌, Bool, true, false, not, List, [], ◌∷◌, length, map, take, drop, get_or, refl, sym, ap, subst, ◌∙◌, arith, Option, Some, None, cond, nat_lt}
+use Rattle.std.proofs.Common.{◌≡◌, ℕ, suc, ◌+◌, ◌-◌, ◌<◌, ◌≤◌, Bool, true, false, not, List, [], ◌∷◌, length, map, take, drop, get_or, refl, sym, ap, subst, ◌∙◌, arith, Option, Some, None, cond, nat_lt}
 use Rattle.std.proofs.lemmas.Bool.Decides.{nat_tests}
-use Rattle.std.proofs.lemmas.List.{take_rest, length-map, get_or-map}
+use Rattle.std.proofs.lemmas.List.{take_rest, get_or-map}
 use Rattle.std.specs.List.{position, position_or_len}
 use Rattle.http_wire.specs.declared.head.Field.{Field}
 use Rattle.http_wire.specs.Fields.{field_parts}
-use Rattle.http_wire.specs.declared.fields.Found.{Found}
-use Rattle.http_wire.specs.declared.fields.Found.TheVariants.{Absent, One, Many}
-use Rattle.http_wire.specs.declared.head.Framing.TheVariants as framings
-use Rattle.std.specs.Prelude.{codes}
-use Rattle.http_wire.specs.Framing.{is_same, values_of, IsFound, length_framing, coding_framing, framing_of, framing_by}
+use Rattle.http_wire.specs.Framing.{is_same, values_of}
+use Rattle.http_wire.specs.InnerFields.{HasMany}
 
 -- ---- what a search for a place found
 
@@ -61,19 +58,10 @@ pub behind : (fields : List Field) (at : ℕ) → take (length fields - (at + 1)
 behind fields at = let e : at + 1 ≡ suc at = omega arith in take_rest fields (at + 1) ∙ ap (λ (k : ℕ). drop k fields) e
 
 -- one field of a name, or more
-pub only_value : (name : List ℕ) (fields : List Field) (at : ℕ) → position (λ f. is_same f.name name) fields ≡ Some at → at < length fields
-    → position (λ f. is_same f.name name) (take (length fields - (at + 1)) (drop (at + 1) fields)) ≡ None
-    → (at < length (map field_parts fields)) × ((d : List ℕ × List ℕ) → values_of name (map field_parts fields) ≡ (get_or (map field_parts fields) at d).1 ∷ [])
-only_value name fields at found inside none =
-    let others = no_value name (drop (suc at) fields) (ap (position (λ f. is_same f.name name)) (sym (behind fields at)) ∙ none) in (
-      omega (arith, length-map fields field_parts),
-      λ d. value_at name fields at found inside d ∙ ap (λ (rest : List (List ℕ)). (get_or (map field_parts fields) at d).1 ∷ rest) others,
-    )
-
 pub many_values : (name : List ℕ) (fields : List Field) (at next : ℕ) → position (λ f. is_same f.name name) fields ≡ Some at → at < length fields
     → position (λ f. is_same f.name name) (take (length fields - (at + 1)) (drop (at + 1) fields)) ≡ Some next
     → next < length (take (length fields - (at + 1)) (drop (at + 1) fields))
-    → (a : List ℕ) × (b : List ℕ) × (rest : List (List ℕ)) × (values_of name (map field_parts fields) ≡ a ∷ b ∷ rest)
+    → HasMany (values_of name (map field_parts fields))
 many_values name fields at next found inside also within =
     let d : List ℕ × List ℕ = ([], []) in
     let tail = drop (suc at) fields in
@@ -95,48 +83,11 @@ first_value name fields at f value found inside is same = (
   value_at name fields at found inside (field_parts f) ∙ ap (λ (v : List ℕ). v ∷ values_of name (map field_parts (drop (suc at) fields))) (value_of fields at f inside is ∙ sym same),
 )
 
--- ---- framing
-
-single : (name : List ℕ) (fields : List Field) (found : Found) (at : ℕ) (f : Field) (value : List ℕ) → IsFound found name (map field_parts fields) → found ≡ One at
+pub only_value : (name : List ℕ) (fields : List Field) (at : ℕ) (f : Field) (value : List ℕ) → position (λ g. is_same g.name name) fields ≡ Some at → at < length fields
+    → position (λ g. is_same g.name name) (take (length fields - (at + 1)) (drop (at + 1) fields)) ≡ None
     → f ≡ get_or fields at f → value ≡ f.value → values_of name (map field_parts fields) ≡ value ∷ []
-single name fields found at f value is_found is_one is same =
-    let one = subst (λ (r : Found). IsFound r name (map field_parts fields)) is_one is_found in
-    let inside : at < length fields = omega (arith, one.0, length-map fields field_parts) in
-    one.1 (field_parts f) ∙ ap (λ (v : List ℕ). v ∷ []) (value_of fields at f inside is ∙ sym same)
+only_value name fields at f value found inside none is same =
+    let others = no_value name (drop (suc at) fields) (ap (position (λ g. is_same g.name name)) (sym (behind fields at)) ∙ none) in
+    value_at name fields at found inside (field_parts f) ∙ (λ i. (value_of fields at f inside is ∙ sym same) i ∷ others i)
 
-none_of : (name : List ℕ) (fields : List (List ℕ × List ℕ)) (found : Found) → IsFound found name fields → found ≡ Absent → values_of name fields ≡ []
-none_of name fields found is_found is_absent = subst (λ (r : Found). IsFound r name fields) is_absent is_found
-
-pub length_is_framing : (minor : ℕ) (fields : List Field) (length coding : Found) (at : ℕ) (f : Field) (value : List ℕ)
-    → IsFound length (codes "content-length") (map field_parts fields) → IsFound coding (codes "transfer-encoding") (map field_parts fields)
-    → length ≡ One at → coding ≡ Absent → f ≡ get_or fields at f → value ≡ f.value → length_framing value ≡ framing_by minor (map field_parts fields)
-length_is_framing minor fields length coding at f value found other is_one is_absent is same =
-    let a = single (codes "content-length") fields length at f value found is_one is same in
-    let b = none_of (codes "transfer-encoding") (map field_parts fields) coding other is_absent in
-    sym (λ i. framing_of minor (a i) (b i))
-
-pub coding_is_framing : (minor : ℕ) (fields : List Field) (length coding : Found) (at : ℕ) (f : Field) (value : List ℕ)
-    → IsFound length (codes "content-length") (map field_parts fields) → IsFound coding (codes "transfer-encoding") (map field_parts fields)
-    → length ≡ Absent → coding ≡ One at → f ≡ get_or fields at f → value ≡ f.value → coding_framing minor value ≡ framing_by minor (map field_parts fields)
-coding_is_framing minor fields length coding at f value found other is_absent is_one is same =
-    let a = none_of (codes "content-length") (map field_parts fields) length found is_absent in
-    let b = single (codes "transfer-encoding") fields coding at f value other is_one is same in
-    sym (λ i. framing_of minor (a i) (b i))
-
-some_of : (name : List ℕ) (fields : List Field) (found : Found) → IsFound found name (map field_parts fields) → found ≢ Absent
-    → (value : List ℕ) × (rest : List (List ℕ)) × (values_of name (map field_parts fields) ≡ value ∷ rest)
-some_of name fields Absent found some = absurd (some refl)
-some_of name fields (One at) found some = ((get_or (map field_parts fields) at ([], [])).1, [], found.1 ([], []))
-some_of name fields Many (a, b, rest, is) some = (a, b ∷ rest, is)
-
-pub both_are_bad : (minor : ℕ) (fields : List Field) (length coding : Found)
-    → IsFound length (codes "content-length") (map field_parts fields) → IsFound coding (codes "transfer-encoding") (map field_parts fields)
-    → length ≢ Absent → coding ≢ Absent → framings.Bad ≡ framing_by minor (map field_parts fields)
-both_are_bad minor fields length coding found other some also =
-    let a = some_of (codes "content-length") fields length found some in
-    let b = some_of (codes "transfer-encoding") fields coding other also in
-    sym ((λ i. framing_of minor (a.2 i) (b.2 i)) ∙ is_bad a.0 a.1 b.0 b.1)
-  where
-    is_bad : (v : List ℕ) (r : List (List ℕ)) (w : List ℕ) (q : List (List ℕ)) → framing_of minor (v ∷ r) (w ∷ q) ≡ framings.Bad
-    is_bad v [] w q = refl
-    is_bad v (x ∷ r) w q = refl
+-- ---- framing

@@ -1,5 +1,5 @@
 -- Facts of the pieces of a chunked body, as the parser answers them.
-use Rattle.std.proofs.Common.{◌≡◌, ◌≢◌, ℕ, ◌<◌, ◌≤◌, List, [], ◌∷◌, length, drop, refl, sym, ap, subst, ◌∙◌, arith, append-nil, length-append, inl, Ok}
+use Rattle.std.proofs.Common.{◌≡◌, ◌≢◌, ℕ, ◌<◌, ◌≤◌, List, [], ◌∷◌, length, drop, refl, sym, ap, subst, ◌∙◌, arith, append-nil, length-append, inl, Ok, Some}
 use Rattle.std.specs.List.{flat_map}
 use Rattle.httparse.specs.declared.Error.{Error}
 use Rattle.httparse.specs.declared.Error.TheVariants as errors
@@ -12,7 +12,6 @@ use Rattle.httparse.specs.declared.spans.HeaderSpan.{HeaderSpan}
 use Rattle.http_wire.specs.declared.body.BodyState.{BodyState}
 use Rattle.http_wire.specs.declared.body.BodyState.TheVariants as states
 use Rattle.http_wire.specs.declared.body.Piece.TheVariants as pieces
-use Rattle.http_wire.specs.declared.pieces.PieceJudged.TheVariants as judged
 use Rattle.http_wire.specs.Bodies.{Section, print_trailer, after_size, IsCutAt, IsBadAt}
 use Rattle.http_wire.specs.InnerPieces.{JudgesPiece}
 use Rattle.http_wire.proofs.HeadLaws.{end_is_some, fields_are_long}
@@ -34,7 +33,7 @@ unfolding print_chunk_line
 line_is_some line = simp length-append (omega arith)
 
 pub line_passes : (bytes : List ℕ) (count size : ℕ) (next : BodyState) (line : ChunkLine) → IsChunkLineAt bytes count size line → length bytes ≤ 1024 → next ≡ after_size size
-    → JudgesPiece (judged.Whole next count) pieces.Line bytes
+    → JudgesPiece (Ok (Some (next, count))) pieces.Line bytes
 line_passes bytes count size next line at few is =
     let long = length-append (print_chunk_line line) (drop count bytes) in
     let same = ap length at.reads.1 in
@@ -50,7 +49,7 @@ section_is_some : (section : Section) → 1 ≤ length (print_trailer section)
 section_is_some section = let end = end_is_some section.1 in omega (arith, length-append (flat_map print_field section.0) (print_end section.1))
 
 pub trailer_passes : (bytes : List ℕ) (spans : List HeaderSpan) (count n : ℕ) (fields : List Field) (last : LineEnd) → IsSectionAt bytes 0 spans count n fields last
-    → length bytes ≤ 16384 → JudgesPiece (judged.Whole states.Done count) pieces.Trailer bytes
+    → length bytes ≤ 16384 → JudgesPiece (Ok (Some (states.Done, count))) pieces.Trailer bytes
 trailer_passes bytes spans count n fields last at few =
     let long = length-append (print_section fields last) (drop count bytes) in
     let same = ap length at.reads.1 in

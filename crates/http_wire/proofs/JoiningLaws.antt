@@ -5,14 +5,12 @@ use Rattle.httparse.specs.Grammar.{RequestHead}
 use Rattle.http_wire.specs.declared.head.Head.{Head}
 use Rattle.http_wire.specs.declared.head.Heading.{Heading}
 use Rattle.http_wire.specs.declared.head.Heading.TheVariants as headings
-use Rattle.http_wire.specs.declared.head.BadHead.{BadHead}
-use Rattle.http_wire.specs.declared.head.BadHead.TheVariants as faults
 use Rattle.http_wire.specs.declared.body.BodyState.{BodyState}
 use Rattle.http_wire.specs.declared.body.BodyStep.{BodyStep}
 use Rattle.http_wire.specs.declared.body.BodyStep.TheVariants as steps
 use Rattle.http_wire.specs.declared.body.BodyTaken.{BodyTaken}
 use Rattle.http_wire.specs.declared.body.BodyTaken.TheVariants as answers
-use Rattle.http_wire.specs.Answers.{TellsHead, IsBadHead, number_of}
+use Rattle.http_wire.specs.Answers.{TellsHead, IsBadHead}
 use Rattle.http_wire.specs.Bodies.{Outcome, ends_before, is_cut_short, is_malformed, Runs, stops, Stops, due}
 use Rattle.http_wire.specs.BodyAnswers.{first_state, IsStepEnd}
 use Rattle.http_wire.specs.Fields.{Shows}
@@ -125,17 +123,17 @@ module _ (head : Head) (first last : BodyState) (old mid new : List ℕ) (tells 
 
 -- ---- no message
 
-refused : (limits : Limits) (old : List ℕ) (why : BadHead) (number : ℕ) (ending : Ending) → number ≡ number_of why → IsBadHead old why → HeadEnds (headings.Bad number) ending → Messages limits old [] ending
-refused limits old faults.Malformed number ending is bad (inl (same, e)) = subst (HasNoMessage (limits 0) old) (sym e) (inl bad)
-refused limits old faults.Malformed number ending is bad (inr (same, e)) = absurd (omega (arith, is, same))
-refused limits old faults.TooLarge number ending is bad (inl (same, e)) = absurd (omega (arith, is, same))
-refused limits old faults.TooLarge number ending is bad (inr (same, e)) = subst (HasNoMessage (limits 0) old) (sym e) bad
+refused : (limits : Limits) (old : List ℕ) (number : ℕ) (ending : Ending) → IsBadHead old number → HeadEnds (headings.Bad number) ending → Messages limits old [] ending
+refused limits old number ending (inl (is, bad)) (inl (same, e)) = subst (HasNoMessage (limits 0) old) (sym e) (inl bad)
+refused limits old number ending (inl (is, bad)) (inr (same, e)) = absurd (omega (arith, is, same))
+refused limits old number ending (inr (is, bad)) (inl (same, e)) = absurd (omega (arith, is, same))
+refused limits old number ending (inr (is, bad)) (inr (same, e)) = subst (HasNoMessage (limits 0) old) (sym e) bad
 
 pub head_end : (limits : Limits) (answer : Heading) (old new : List ℕ) (ending : Ending) → TellsHead answer old new → HeadEnds answer ending → Messages limits old [] ending
 head_end limits (headings.Head head) old new ending tells e = absurd e
 head_end limits headings.End old new ending tells e = subst (HasNoMessage (limits 0) old) (sym e) tells.0
 head_end limits headings.Cut old new ending tells e = subst (HasNoMessage (limits 0) old) (sym e) (inl tells.0)
-head_end limits (headings.Bad number) old new ending (why, is, bad, same) e = refused limits old why number ending is bad e
+head_end limits (headings.Bad number) old new ending (bad, same) e = refused limits old number ending bad e
 head_end limits headings.SourceFault old new ending tells e = absurd e
 head_end limits headings.Long old new ending tells e = absurd e
 head_end limits headings.NoMemory old new ending tells e = absurd e

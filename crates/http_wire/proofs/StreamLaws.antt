@@ -1,21 +1,15 @@
 -- From what waits in a feed to what the stream is.
-use Rattle.std.proofs.Common.{◌≡◌, ℕ, zero, suc, ◌+◌, ◌-◌, ◌<◌, ◌≤◌, ◌⊎◌, true, false, List, [], ◌∷◌, ◌++◌, length, take, drop, slice_range, refl, sym, ap, subst, ◌∙◌, arith, append-nil, append_assoc, length-take, length-drop, inl, inr, Option, Some, None}
+use Rattle.std.proofs.Common.{◌≡◌, ℕ, zero, suc, ◌+◌, ◌-◌, ◌<◌, ◌≤◌, true, false, List, [], ◌∷◌, ◌++◌, length, take, drop, slice_range, refl, sym, ap, subst, ◌∙◌, arith, append-nil, append_assoc, length-take, length-drop, inl, inr, Option, Some, None, Ok}
 use Rattle.std.proofs.lemmas.List.{drop-drop, drop-take}
 use lib.Seq.{take-add}
 use Rattle.std.specs.Io.KnownBytes.{prepend_known, Keeps, Consumes, IsAtEnd}
-use Rattle.httparse.proofs.GrammarLemmas.{ReadsRequest-append}
-use Rattle.http_wire.specs.declared.head.Head.{Head}
 use Rattle.http_wire.specs.declared.head.Heading.{Heading}
-use Rattle.http_wire.specs.declared.head.Heading.TheVariants as headings
-use Rattle.http_wire.specs.declared.head.BadHead.{BadHead}
-use Rattle.http_wire.specs.declared.head.BadHead.TheVariants as faults
-use Rattle.http_wire.specs.declared.judge.Judged.TheVariants as judged
-use Rattle.http_wire.specs.Answers.{number_of, IsBadHead, TellsHead}
+use Rattle.http_wire.specs.Answers.{TellsHead}
 use Rattle.http_wire.specs.InnerHeads.{Judges, EndsAs}
 use Rattle.std.specs.List.{list_all}
 use Rattle.httparse.specs.Pieces.{is_newline}
 use Rattle.http_wire.specs.Flow.{Flow, spent, IsBounded, OnStream}
-use Rattle.http_wire.specs.Heads.{IsOpen, HasManyFields}
+use Rattle.http_wire.specs.Heads.{IsOpen}
 
 -- a call that kept the stream left it as it was
 pub stays : (old new : Option (List ℕ)) → Keeps old new → OnStream old new (λ a b. b ≡ a)
@@ -48,41 +42,8 @@ refilled p t None now x = tt
 refilled p t (Some xs) None x = absurd x
 refilled p t (Some xs) (Some ys) x = append_assoc p t ys ∙ ap (λ (b : List ℕ). p ++ b) (sym x)
 
-many_fields-append : (p q : List ℕ) → HasManyFields p → HasManyFields (p ++ q)
-many_fields-append p q (h, rest, (reads, few), many) = (h, rest ++ q, (ReadsRequest-append p h rest q reads, few), many)
-
-bad : (p q : List ℕ) (why : BadHead) → length p ≤ 16384 → Judges (judged.Bad why) p → IsBadHead (p ++ q) why
-bad p q faults.Malformed few x = (p, q, refl, few, x)
-bad p q faults.TooLarge few (inl (full, open_p)) = inl (p, q, refl, full, open_p)
-bad p q faults.TooLarge few (inr many) = inr (many_fields-append p q many)
-
-IsBadHead-same : (a b : List ℕ) (why : BadHead) → b ≡ a → IsBadHead b why → IsBadHead a why
-IsBadHead-same a b why same x = subst (λ (c : List ℕ). IsBadHead c why) same x
-
--- what is known of a head, and of a refusal, of any bytes
-pub head_minor : (p : List ℕ) (head : Head) (count : ℕ) → Judges (judged.Whole head count) p → head.minor ≤ 1
-head_minor p head count judges = subst (λ (n : ℕ). n ≤ 1) (sym judges.1.minor) judges.2.0.minor
-
-pub number_known : (why : BadHead) (number : ℕ) → number ≡ number_of why → (number ≡ 18) ⊎ (number ≡ 19)
-number_known faults.Malformed number is = inl is
-number_known faults.TooLarge number is = inr is
-
-pub refuses : (old left : Option (List ℕ)) (p : List ℕ) (why : BadHead) (number : ℕ) → number ≡ number_of why → Keeps old (prepend_known p left) → length p ≤ 16384
-    → Judges (judged.Bad why) p → OnStream old (prepend_known p left) (TellsHead (headings.Bad number))
-refuses None left p why number is kept few x = tt
-refuses (Some a) None p why number is kept few x = kept
-refuses (Some a) (Some q) p why number is kept few x = (why, is, IsBadHead-same a (p ++ q) why kept (bad p q why few x), kept)
-
-pub finds : (old left : Option (List ℕ)) (p : List ℕ) (head : Head) (count : ℕ) → Keeps old (prepend_known p left) → length p ≤ 16384
-    → Judges (judged.Whole head count) p → OnStream old (prepend_known (drop count p) left) (TellsHead (headings.Head head))
-finds None left p head count kept few x = tt
-finds (Some a) None p head count kept few x = kept
-finds (Some a) (Some q) p head count kept few (h, shows, reads, is_count, some, fits) =
-    let whole = ReadsRequest-append p h (drop count p) q reads in
-    (h, (((whole.0, sym kept ∙ whole.1), omega arith), some), shows)
-
 pub ends : (old left : Option (List ℕ)) (p : List ℕ) (answer : Heading) → Keeps old (prepend_known p left) → IsAtEnd left
-    → Judges judged.Open p → EndsAs answer p → OnStream old (prepend_known p left) (TellsHead answer)
+    → Judges (Ok None) p → EndsAs answer p → OnStream old (prepend_known p left) (TellsHead answer)
 ends None left p answer kept over x y = tt
 ends (Some a) None p answer kept over x y = kept
 ends (Some a) (Some q) p answer kept over x (inl (blank, is_end)) =

@@ -1,18 +1,16 @@
 -- From what waits in a feed to the pieces of a body on the stream.
-use Rattle.std.proofs.Common.{◌≡◌, ℕ, ◌+◌, ◌-◌, ◌<◌, ◌≤◌, min, List, [], ◌++◌, length, take, drop, slice_range, refl, sym, ap, subst, ◌∙◌, arith, append_assoc, length-append, Option, Some, None, Ok, Err}
+use Rattle.std.proofs.Common.{◌≡◌, ℕ, ◌+◌, ◌-◌, ◌<◌, ◌≤◌, min, List, [], ◌++◌, length, take, drop, slice_range, refl, sym, ap, subst, ◌∙◌, arith, append_assoc, length-append, Option, Some, None, Result, Ok, Err}
 use Rattle.std.proofs.Math.Nat.{sub-zero}
 use Rattle.std.specs.Io.KnownBytes.{prepend_known, Keeps}
 use Rattle.http_wire.specs.declared.body.BodyState.{BodyState}
 use Rattle.http_wire.specs.declared.body.BodyState.TheVariants as states
 use Rattle.http_wire.specs.declared.body.Piece.{Piece}
 use Rattle.http_wire.specs.declared.body.Piece.TheVariants as pieces
-use Rattle.http_wire.specs.declared.pieces.PieceJudged.{PieceJudged}
-use Rattle.http_wire.specs.declared.pieces.PieceJudged.TheVariants as judged
-use Rattle.http_wire.specs.declared.stop.Stop.TheVariants as stopped
-use Rattle.http_wire.specs.Bodies.{Passes, IsBadAt, IsCutAt, is_cut_short, Stops, due, less}
-use Rattle.http_wire.specs.InnerPieces.{limit_of, JudgesPiece, JudgesFront, FitsFront, IsAfter, TakesPiece}
+use Rattle.http_wire.specs.declared.stop.Stop.{Stop}
+use Rattle.http_wire.specs.Bodies.{Passes, IsCutAt, is_cut_short, Stops, due, less}
+use Rattle.http_wire.specs.InnerPieces.{limit_of, JudgesPiece, JudgesFront, FitsFront, TakesPiece}
 use Rattle.http_wire.specs.Flow.{OnStream}
-use Rattle.http_wire.proofs.BodyLaws.{Passes-append, IsBadAt-append}
+use Rattle.http_wire.proofs.BodyLaws.{Passes-append}
 use Rattle.http_wire.proofs.StreamLaws.{slice_split, length_slice, drop_front}
 
 cut_is_short : (piece : Piece) (bytes : List ℕ) → IsCutAt piece bytes → length bytes < limit_of piece
@@ -26,10 +24,10 @@ limit_is_small pieces.Line = omega arith
 limit_is_small pieces.Trailer = omega arith
 
 -- the front of what waits, as much as the piece may have
-pub front_judged : (answer : PieceJudged) (piece : Piece) (b p : List ℕ) (start end middle : ℕ) → start ≤ end → end ≤ length b → middle ≡ min end (start + limit_of piece)
+pub front_judged : (answer : Result (Option (BodyState × ℕ)) Stop) (piece : Piece) (b p : List ℕ) (start end middle : ℕ) → start ≤ end → end ≤ length b → middle ≡ min end (start + limit_of piece)
     → slice_range b start end ≡ p → JudgesPiece answer piece (slice_range b start middle) → JudgesFront answer piece p
 front_judged answer piece b p start end middle ordered within is_middle is x =
-    (slice_range b start middle, slice_range b middle end, sym is ∙ slice_split b start middle end (omega arith) (omega arith), x, λ is_open. nothing_behind (subst (λ (a : PieceJudged). JudgesPiece a piece (slice_range b start middle)) is_open x))
+    (slice_range b start middle, slice_range b middle end, sym is ∙ slice_split b start middle end (omega arith) (omega arith), x, λ is_open. nothing_behind (subst (λ (a : Result (Option (BodyState × ℕ)) Stop). JudgesPiece a piece (slice_range b start middle)) is_open x))
   where
     nothing_behind : IsCutAt piece (slice_range b start middle) → slice_range b middle end ≡ []
     nothing_behind cut =
@@ -38,10 +36,10 @@ front_judged answer piece b p start end middle ordered within is_middle is x =
         let e : end - middle ≡ 0 = omega arith in
         ap (λ (k : ℕ). take k (drop middle b)) e
 
-pub front_fits : (answer : PieceJudged) (piece : Piece) (p : List ℕ) → JudgesFront answer piece p → FitsFront answer p
-front_fits (judged.Whole next count) piece p (begin, behind, split, (passes, some, fits), rest) = (some, omega (arith, ap length split, length-append begin behind))
-front_fits judged.Bad piece p x = tt
-front_fits judged.Open piece p (begin, behind, split, cut, nothing) =
+pub front_fits : (answer : Result (Option (BodyState × ℕ)) Stop) (piece : Piece) (p : List ℕ) → JudgesFront answer piece p → FitsFront answer p
+front_fits (Ok (Some (next, count))) piece p (begin, behind, split, (passes, some, fits), rest) = (some, omega (arith, ap length split, length-append begin behind))
+front_fits (Err stop) piece p x = tt
+front_fits (Ok None) piece p (begin, behind, split, cut, nothing) =
     omega (arith, ap length split, length-append begin behind, ap length (nothing refl), cut_is_short piece begin cut, limit_is_small piece)
 
 -- ---- of all that waits
@@ -49,7 +47,7 @@ front_fits judged.Open piece p (begin, behind, split, cut, nothing) =
 -- ---- on the stream
 
 pub piece_found : (old left : Option (List ℕ)) (p : List ℕ) (piece : Piece) (next : BodyState) (count : ℕ) → Keeps old (prepend_known p left)
-    → JudgesFront (judged.Whole next count) piece p → OnStream old (prepend_known (drop count p) left) (TakesPiece (Ok next) piece)
+    → JudgesFront (Ok (Some (next, count))) piece p → OnStream old (prepend_known (drop count p) left) (TakesPiece (Ok next) piece)
 piece_found None left p piece next count kept x = tt
 piece_found (Some a) None p piece next count kept x = kept
 piece_found (Some a) (Some q) p piece next count kept (begin, behind, split, (passes, some, fits), nothing) =
@@ -58,22 +56,6 @@ piece_found (Some a) (Some q) p piece next count kept (begin, behind, split, (pa
     let after : drop count begin ++ (behind ++ q) ≡ drop count p ++ q =
     sym (append_assoc (drop count begin) behind q) ∙ ap (λ (b : List ℕ). b ++ q) (sym (drop_front count begin behind fits) ∙ ap (drop count) (sym split)) in
     subst (λ (b : List ℕ). Passes piece b next (drop count p ++ q)) before (subst (λ (r : List ℕ). Passes piece (begin ++ (behind ++ q)) next r) after whole)
-
-pub piece_bad : (old left : Option (List ℕ)) (p : List ℕ) (piece : Piece) → Keeps old (prepend_known p left) → JudgesFront judged.Bad piece p
-    → OnStream old (prepend_known p left) (TakesPiece (Err stopped.Malformed) piece)
-piece_bad None left p piece kept x = tt
-piece_bad (Some a) None p piece kept x = kept
-piece_bad (Some a) (Some q) p piece kept (begin, behind, split, bad, nothing) =
-    let before : begin ++ (behind ++ q) ≡ a = sym (append_assoc begin behind q) ∙ ap (λ (b : List ℕ). b ++ q) (sym split) ∙ kept in
-    (subst (IsBadAt piece) before (IsBadAt-append piece begin (behind ++ q) bad), kept)
-
-pub passes_after : (piece : Piece) (bytes : List ℕ) (next : BodyState) (rest : List ℕ) → Passes piece bytes next rest → IsAfter piece next
-passes_after pieces.Gap bytes next rest x = x.1
-passes_after pieces.Line bytes next rest (line, has, is) = (_, is)
-passes_after pieces.Trailer bytes next rest (section, has, is) = is
-
-pub front_after : (piece : Piece) (p : List ℕ) (next : BodyState) (count : ℕ) → JudgesFront (judged.Whole next count) piece p → IsAfter piece next
-front_after piece p next count (begin, behind, split, (passes, some, fits), nothing) = passes_after piece begin next (drop count begin) passes
 
 -- ---- steps through data
 

@@ -4,8 +4,6 @@ use Rattle.httparse.specs.Grammar.{RequestHead}
 use Rattle.http_wire.specs.declared.head.Head.{Head}
 use Rattle.http_wire.specs.declared.head.Heading.{Heading}
 use Rattle.http_wire.specs.declared.head.Heading.TheVariants as headings
-use Rattle.http_wire.specs.declared.head.BadHead.{BadHead}
-use Rattle.http_wire.specs.declared.head.BadHead.TheVariants as faults
 use Rattle.http_wire.specs.Fields.{Shows}
 use Rattle.http_wire.specs.Heads.{begins, is_nothing, is_cut, is_malformed, is_too_large, Holds}
 
@@ -19,22 +17,17 @@ abbrev pub IfBad : Heading → (ℕ → Type 0) → Type 0
 IfBad (headings.Bad number) P = P number
 IfBad answer P = ⊤
 
--- the number of a refusal
-abbrev pub number_of : BadHead → ℕ
-number_of faults.Malformed = 18
-number_of faults.TooLarge = 19
-
--- why a head is refused
-abbrev pub IsBadHead : List ℕ → BadHead → Type 0
-IsBadHead bytes faults.Malformed = Holds bytes is_malformed
-IsBadHead bytes faults.TooLarge = Holds bytes is_too_large
+-- why a head is refused, by the number of the refusal
+abbrev pub IsBadHead : List ℕ → ℕ → Type 0
+IsBadHead bytes number =
+    ((number ≡ 18) × Holds bytes is_malformed) ⊎ ((number ≡ 19) × Holds bytes is_too_large)
 
 -- a head was taken off the stream; else the stream is as it was
 abbrev pub TellsHead : Heading → List ℕ → List ℕ → Type 0
 TellsHead (headings.Head head) old new = (h : RequestHead) × Holds old (begins h new) × Shows head h
 TellsHead headings.End old new = Holds old is_nothing × (new ≡ old)
 TellsHead headings.Cut old new = Holds old is_cut × (new ≡ old)
-TellsHead (headings.Bad number) old new = (why : BadHead) × (number ≡ number_of why) × IsBadHead old why × (new ≡ old)
+TellsHead (headings.Bad number) old new = IsBadHead old number × (new ≡ old)
 TellsHead answer old new = new ≡ old
 
 -- the input ended

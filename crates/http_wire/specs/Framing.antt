@@ -1,13 +1,11 @@
 -- Fields by their names (RFC 9110, section 5), and where the body of a request ends (RFC 9112, section 6).
-use Rattle.std.specs.Prelude.{◌≡◌, ℕ, ◌<◌, Bool, ◌&&◌, nat_eq, nat_le, if◌then◌else◌, List, [], ◌∷◌, length, map, codes, slice_index_or}
+use Rattle.std.specs.Prelude.{ℕ, Bool, ◌&&◌, nat_eq, nat_le, if◌then◌else◌, List, [], ◌∷◌, length, map, codes}
 use Rattle.std.specs.List.{list_all}
 use Rattle.std.specs.Char.{is_ascii_digit, to_ascii_lowercase}
 use Rattle.std.specs.Cmp.Lexicographic.{pointwise}
 use Rattle.std.specs.Str.Parse.{digits_value}
 use Rattle.http_wire.specs.declared.head.Framing.{Framing}
 use Rattle.http_wire.specs.declared.head.Framing.TheVariants.{Length, Chunked, Bad}
-use Rattle.http_wire.specs.declared.fields.Found.{Found}
-use Rattle.http_wire.specs.declared.fields.Found.TheVariants.{Absent, One, Many}
 
 -- equal without regard to ASCII case
 abbrev pub is_same : List ℕ → List ℕ → Bool
@@ -17,13 +15,6 @@ is_same a b = pointwise nat_eq (map to_ascii_lowercase a) (map to_ascii_lowercas
 abbrev pub values_of : List ℕ → List (List ℕ × List ℕ) → List (List ℕ)
 values_of name [] = []
 values_of name (f ∷ fields) = if is_same f.0 name then f.1 ∷ values_of name fields else values_of name fields
-
--- how many there are of that name, and the place of a single one
-abbrev pub IsFound : Found → List ℕ → List (List ℕ × List ℕ) → Type 0
-IsFound Absent name fields = values_of name fields ≡ []
-IsFound (One at) name fields =
-    (at < length fields) × ((d : List ℕ × List ℕ) → values_of name fields ≡ (slice_index_or fields at d).1 ∷ [])
-IsFound Many name fields = (a : List ℕ) × (b : List ℕ) × (rest : List (List ℕ)) × (values_of name fields ≡ a ∷ b ∷ rest)
 
 -- 1 to 18 decimal digits
 abbrev pub is_number : List ℕ → Bool

@@ -1,29 +1,27 @@
 -- The proof's own: no public clause cites what stands here.
 -- The pieces of a chunked body, as they are judged, and taken off a stream.
-use Rattle.std.specs.Prelude.{◌≡◌, ℕ, ◌≤◌, ◌<◌, List, [], ◌++◌, drop, length, Result, Ok, Err, ⊤}
+use Rattle.std.specs.Prelude.{◌≡◌, ℕ, ◌≤◌, ◌<◌, List, [], ◌++◌, drop, length, Option, Some, None, Result, Ok, Err, ⊤}
 use Rattle.http_wire.specs.Limits.{head_limit, size_line_limit, trailer_limit}
 use Rattle.http_wire.specs.declared.body.BodyState.{BodyState}
 use Rattle.http_wire.specs.declared.body.BodyState.TheVariants as states
 use Rattle.http_wire.specs.declared.body.Piece.{Piece}
 use Rattle.http_wire.specs.declared.body.Piece.TheVariants as pieces
-use Rattle.http_wire.specs.declared.pieces.PieceJudged.{PieceJudged}
-use Rattle.http_wire.specs.declared.pieces.PieceJudged.TheVariants as judged
 use Rattle.http_wire.specs.declared.stop.Stop.{Stop}
 use Rattle.http_wire.specs.declared.stop.Stop.TheVariants as stopped
 use Rattle.http_wire.specs.Bodies.{after_size, Passes, IsBadAt, IsCutAt}
 
--- what the bytes that have come are known to be, as if they were all: the piece, a bad one, or a cut one
-abbrev pub JudgesPiece : PieceJudged → Piece → List ℕ → Type 0
-JudgesPiece (judged.Whole next count) piece bytes =
+-- what the bytes that have come are known to be, as if they were all: the piece, a cut one, or a bad one
+abbrev pub JudgesPiece : Result (Option (BodyState × ℕ)) Stop → Piece → List ℕ → Type 0
+JudgesPiece (Ok (Some (next, count))) piece bytes =
     Passes piece bytes next (drop count bytes) × (0 < count) × (count ≤ length bytes)
-JudgesPiece judged.Bad piece bytes = IsBadAt piece bytes
-JudgesPiece judged.Open piece bytes = IsCutAt piece bytes
+JudgesPiece (Ok None) piece bytes = IsCutAt piece bytes
+JudgesPiece (Err stop) piece bytes = (stop ≡ stopped.Malformed) × IsBadAt piece bytes
 
 -- the same of a front of the bytes, which is all of them where it is cut
-abbrev pub JudgesFront : PieceJudged → Piece → List ℕ → Type 0
+abbrev pub JudgesFront : Result (Option (BodyState × ℕ)) Stop → Piece → List ℕ → Type 0
 JudgesFront answer piece bytes =
     (begin : List ℕ) × (behind : List ℕ) × (bytes ≡ begin ++ behind) × JudgesPiece answer piece begin
-    × (answer ≡ judged.Open → behind ≡ [])
+    × (answer ≡ Ok None → behind ≡ [])
 
 -- the most bytes of a piece
 abbrev pub limit_of : Piece → ℕ
@@ -32,10 +30,10 @@ limit_of pieces.Line = size_line_limit
 limit_of pieces.Trailer = trailer_limit
 
 -- what a caller needs of the counts: bytes to take off the front, or room for more
-abbrev pub FitsFront : PieceJudged → List ℕ → Type 0
-FitsFront (judged.Whole next count) bytes = (0 < count) × (count ≤ length bytes)
-FitsFront judged.Bad bytes = ⊤
-FitsFront judged.Open bytes = length bytes < head_limit
+abbrev pub FitsFront : Result (Option (BodyState × ℕ)) Stop → List ℕ → Type 0
+FitsFront (Ok (Some (next, count))) bytes = (0 < count) × (count ≤ length bytes)
+FitsFront (Ok None) bytes = length bytes < head_limit
+FitsFront (Err stop) bytes = ⊤
 
 -- the piece was taken off the bytes, or they are as they were
 abbrev pub TakesPiece : Result BodyState Stop → Piece → List ℕ → List ℕ → Type 0

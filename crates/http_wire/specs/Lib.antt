@@ -10,6 +10,7 @@ pub mod BodyAnswers
 pub mod Messages
 pub mod Filling
 pub mod Reading
+pub mod InnerFields
 pub mod InnerHeads
 pub mod InnerPieces
 pub mod InnerReaching

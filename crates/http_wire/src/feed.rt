@@ -9,11 +9,11 @@ ghost use Rattle.http_wire.specs.Flow.{stream, IsBounded, Counts};
 ghost use Rattle.http_wire.specs.Limits.{feed_limit, head_limit};
 ghost use Rattle.http_wire.specs.Flow as words;
 
-use crate::NoMemory;
-use crate::body::Piece;
-use crate::judge::{Judged, judge};
-use crate::pieces::{PieceJudged, judge_piece, limit};
+use crate::body::{BodyState, Piece};
+use crate::judge::judge;
+use crate::pieces::{judge_piece, limit};
 use crate::stop::Stop;
+use crate::{Head, Heading, NoMemory};
 use depot_api::{Source, SourceFault};
 use httparse::spans::{EMPTY_HEADER_SPAN, HeaderSpan};
 use std::alloc::Global;
@@ -78,8 +78,8 @@ impl Feed {
         &self.buffer[self.start..self.end]
     }
 
-    /// What the bytes that wait are known to be.
-    pub(crate) fn judge(&mut self, alloc: Global) -> Judged
+    /// The head that waits, as `judge` finds it.
+    pub(crate) fn judge(&mut self, alloc: Global) -> Result<Option<(Head, usize)>, Heading>
         ensures kept { self.new ≡ self.old }
         ensures judged { Judges result self.old.pending }
         ensures few { length self.old.pending ≤ head_limit }
@@ -88,9 +88,8 @@ impl Feed {
         judge(alloc, &self.buffer[self.start..self.end], &mut self.spans)
     }
 
-    /// What the bytes that wait are known to be, in a chunked body that has come before such a
-    /// piece.
-    pub(crate) fn judge_piece(&mut self, piece: Piece) -> PieceJudged
+    /// The piece that waits, as `judge_piece` finds it.
+    pub(crate) fn judge_piece(&mut self, piece: Piece) -> Result<Option<(BodyState, usize)>, Stop>
         ensures kept { self.new ≡ self.old }
         ensures judged { JudgesFront result piece self.old.pending }
         ensures fits { FitsFront result self.old.pending }

@@ -1,18 +1,12 @@
 //! Fields by their names.
-ghost use Rattle.std.specs.Prelude.{◌≡◌, ◌∷◌, ◌<◌, ◌≤◌, ℕ, List, length, map, slice_index_or, IfSome, MatchOption, []};
+ghost use Rattle.std.specs.Prelude.{◌≡◌, ◌∷◌, ◌<◌, ◌≤◌, ℕ, List, length, map, slice_index_or, IfSome, MatchOption, MatchResult, []};
 ghost use Rattle.std.specs.List.{position};
 ghost use Rattle.http_wire.specs.Fields.{field_parts};
 ghost use Rattle.http_wire.specs.Framing as framing;
+ghost use Rattle.http_wire.specs.InnerFields.{HasMany};
 
 use crate::Field;
-
-/// Where the fields of a name stand.
-#[derive(Clone, Copy, Debug)]
-pub(crate) enum Found {
-    Absent,
-    One(usize),
-    Many,
-}
+use crate::stop::Stop;
 
 /// Whether two texts are the same without regard to ASCII case.
 pub(crate) fn is_same(one: &[u8], other: &[u8]) -> bool
@@ -21,15 +15,18 @@ pub(crate) fn is_same(one: &[u8], other: &[u8]) -> bool
     one.eq_ignore_ascii_case(other)
 }
 
-/// Where the fields of that name stand.
-pub(crate) fn find(fields: &[Field], name: &[u8]) -> Found
-    ensures { framing.IsFound result name.now (map field_parts fields.now) }
+/// The value of the only field of that name, where one stands; two are malformed.
+pub(crate) fn only<'h>(fields: &'h [Field], name: &[u8]) -> Result<Option<&'h [u8]>, Stop>
+    ensures { MatchResult result
+        (λ found. MatchOption found (framing.values_of name.now (map field_parts fields.now) ≡ [])
+        (λ v. framing.values_of name.now (map field_parts fields.now) ≡ v.now ∷ []))
+        (λ _. HasMany (framing.values_of name.now (map field_parts fields.now))) }
 {
     match place_of(fields, name) {
-        None => Found::Absent,
+        None => Ok(None),
         Some(at) => match place_of(&fields[at + 1..], name) {
-            None => Found::One(at),
-            Some(_) => Found::Many,
+            None => Ok(Some(fields[at].value.as_slice())),
+            Some(_) => Err(Stop::Malformed),
         },
     }
 }

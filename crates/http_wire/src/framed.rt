@@ -4,7 +4,7 @@ ghost use Rattle.std.specs.Str.Parse.{digits_value};
 ghost use Rattle.http_wire.specs.Fields.{fields_of};
 ghost use Rattle.http_wire.specs.Framing as spec;
 
-use crate::fields::{Found, find, is_same};
+use crate::fields::{is_same, only};
 use crate::{Framing, Head};
 
 /// Where the body of a request ends, by its Content-Length (RFC 9110, section 8.6) and
@@ -13,14 +13,12 @@ use crate::{Framing, Head};
 pub fn framing(head: &Head) -> Framing
     ensures { result ≡ spec.framing_by head.now.minor (fields_of head.now) }
 {
-    let length = find(&head.fields, b"content-length");
-    let coding = find(&head.fields, b"transfer-encoding");
+    let length = only(&head.fields, b"content-length");
+    let coding = only(&head.fields, b"transfer-encoding");
     match (length, coding) {
-        (Found::Absent, Found::Absent) => Framing::Length(0),
-        (Found::One(at), Found::Absent) => length_framing(head.fields[at].value.as_slice()),
-        (Found::Absent, Found::One(at)) => {
-            coding_framing(head.minor, head.fields[at].value.as_slice())
-        }
+        (Ok(None), Ok(None)) => Framing::Length(0),
+        (Ok(Some(text)), Ok(None)) => length_framing(text),
+        (Ok(None), Ok(Some(text))) => coding_framing(head.minor, text),
         _ => Framing::Bad,
     }
 }

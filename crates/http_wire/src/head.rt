@@ -1,6 +1,4 @@
 //! Request heads.
-ghost use Rattle.std.specs.Prelude.{◌≡◌};
-ghost use Rattle.http_wire.specs.Answers.{number_of};
 
 use depot_api::{Bytes, Text};
 
@@ -22,32 +20,12 @@ pub struct Head {
     pub fields: Vec<Field>,
 }
 
-/// Why a head is refused.
-#[derive(Clone, Copy, Debug, PartialEq, Eq)]
-pub(crate) enum BadHead {
-    /// No bytes that could follow make it a head.
-    Malformed,
-    /// The first 16,384 bytes hold no whole head, or it has more than 64 fields.
-    TooLarge,
-}
-
 /// The number of the refusal of a malformed head: no bytes that could follow make it a head.
 pub const MALFORMED: u8 = 18;
 
-/// The number of the refusal of a head that is too large.
+/// The number of the refusal of a head that is too large: the first 16,384 bytes hold no whole one,
+/// or it has more than 64 fields.
 pub const TOO_LARGE: u8 = 19;
-
-impl BadHead {
-    /// The number of the refusal.
-    pub(crate) fn number(self) -> u8
-        ensures { result ≡ number_of self }
-    {
-        match self {
-            BadHead::Malformed => MALFORMED,
-            BadHead::TooLarge => TOO_LARGE,
-        }
-    }
-}
 
 /// What a stream begins with.
 #[derive(Debug, Drop)]

@@ -11,8 +11,8 @@ ghost use Rattle.http_wire.specs.Limits.{head_limit};
 ghost use Rattle.http_wire.specs.Heads as heads;
 
 use crate::feed::HEAD_LIMIT;
-use crate::head::BadHead;
-use crate::{Bytes, Field, Head, NoMemory, Text};
+use crate::head::{MALFORMED, TOO_LARGE};
+use crate::{Bytes, Field, Head, Heading, NoMemory, Text};
 use httparse::Status;
 use httparse::spans::{HeaderSpan, RequestSpans, Span, parse_request};
 use std::alloc::Global;
@@ -20,59 +20,42 @@ use std::alloc::Global;
 // The most fields of a head.
 const FIELD_LIMIT: usize = 64;
 
-/// What the front of a stream is known to be. A whole head comes with the number of its bytes.
-#[derive(Debug, Drop)]
-pub(crate) enum Judged {
-    Whole(Head, usize),
-    Bad(BadHead),
-    /// More bytes have to come.
-    Open,
-    NoMemory,
-}
-
-// The same, before anything is copied.
-#[derive(Clone, Copy, Debug)]
-enum Parsed {
-    Whole(RequestSpans),
-    Malformed,
-    Unfinished,
-}
-
-/// Judges bytes, of which nothing is refused before a line has come or the buffer is full.
-pub(crate) fn judge(alloc: Global, bytes: &[u8], spans: &mut [HeaderSpan]) -> Judged
+/// The head that bytes begin with and the number of its bytes, or none where more have to come; an
+/// error is the answer that refuses them. Nothing is refused before a line has come or the buffer
+/// is full.
+pub(crate) fn judge(
+    alloc: Global,
+    bytes: &[u8],
+    spans: &mut [HeaderSpan],
+) -> Result<Option<(Head, usize)>, Heading>
     requires few { length bytes.now ≤ head_limit }
     requires spans { length spans.old ≡ 8192 }
     ensures { Judges result bytes.now }
 {
-    match parse(bytes, spans) {
-        Parsed::Whole(found) if found.headers > FIELD_LIMIT => Judged::Bad(BadHead::TooLarge),
-        Parsed::Whole(found) => match head_at(alloc, bytes, spans, &found) {
-            Ok(head) => Judged::Whole(head, found.len),
-            Err(NoMemory) => Judged::NoMemory,
+    match parse(bytes, spans)? {
+        Some(found) if found.headers > FIELD_LIMIT => Err(Heading::Bad(TOO_LARGE)),
+        Some(found) => match head_at(alloc, bytes, spans, &found) {
+            Ok(head) => Ok(Some((head, found.len))),
+            Err(NoMemory) => Err(Heading::NoMemory),
         },
-        Parsed::Malformed => Judged::Bad(BadHead::Malformed),
-        Parsed::Unfinished => {
-            if bytes.len() == HEAD_LIMIT {
-                Judged::Bad(BadHead::TooLarge)
-            } else {
-                Judged::Open
-            }
-        }
+        None if bytes.len() == HEAD_LIMIT => Err(Heading::Bad(TOO_LARGE)),
+        None => Ok(None),
     }
 }
 
-fn parse(bytes: &[u8], spans: &mut [HeaderSpan]) -> Parsed
+// The same, before anything is copied.
+fn parse(bytes: &[u8], spans: &mut [HeaderSpan]) -> Result<Option<RequestSpans>, Heading>
     requires few { length bytes.now ≤ head_limit }
     requires spans { length spans.old ≡ 8192 }
     ensures { Parses result spans.new bytes.now }
 {
     if !has_line(bytes) {
-        return Parsed::Unfinished;
+        return Ok(None);
     }
     match parse_request(bytes, spans) {
-        Ok(Status::Complete(found)) => Parsed::Whole(found),
-        Ok(Status::Partial) => Parsed::Unfinished,
-        Err(_) => Parsed::Malformed,
+        Ok(Status::Complete(found)) => Ok(Some(found)),
+        Ok(Status::Partial) => Ok(None),
+        Err(_) => Err(Heading::Bad(MALFORMED)),
     }
 }
 

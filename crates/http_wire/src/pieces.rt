@@ -22,16 +22,6 @@ const TRAILER_LIMIT: usize = 16_384;
 // The most hexadecimal digits of a chunk's size.
 const MOST_DIGITS: usize = 16;
 
-/// What the front of a stream is known to be. A whole piece comes with the state behind it and the
-/// number of its bytes.
-#[derive(Clone, Copy, Debug, PartialEq, Eq)]
-pub(crate) enum PieceJudged {
-    Whole(BodyState, usize),
-    Bad,
-    /// More bytes have to come.
-    Open,
-}
-
 /// The most bytes of a piece.
 pub(crate) fn limit(piece: Piece) -> usize
     ensures { result ≡ limit_of piece }
@@ -43,8 +33,13 @@ pub(crate) fn limit(piece: Piece) -> usize
     }
 }
 
-/// Judges bytes that are no more than the piece may have.
-pub(crate) fn judge_piece(piece: Piece, bytes: &[u8], spans: &mut [HeaderSpan]) -> PieceJudged
+/// The state behind the piece that bytes begin with and the number of its bytes, or none where more
+/// have to come. The bytes are no more than the piece may have.
+pub(crate) fn judge_piece(
+    piece: Piece,
+    bytes: &[u8],
+    spans: &mut [HeaderSpan],
+) -> Result<Option<(BodyState, usize)>, Stop>
     requires few { length bytes.now ≤ limit_of piece }
     requires spans { length spans.old ≡ 8192 }
     ensures { JudgesPiece result piece bytes.now }
@@ -56,27 +51,27 @@ pub(crate) fn judge_piece(piece: Piece, bytes: &[u8], spans: &mut [HeaderSpan]) 
     }
 }
 
-fn judge_gap(bytes: &[u8]) -> PieceJudged
+fn judge_gap(bytes: &[u8]) -> Result<Option<(BodyState, usize)>, Stop>
     requires { length bytes.now ≤ 2 }
     ensures { JudgesPiece result Piece.Gap bytes.now }
 {
     match bytes {
-        [] => PieceJudged::Open,
-        [b'\r'] => PieceJudged::Open,
-        [b'\r', b'\n'] => PieceJudged::Whole(BodyState::Before(Piece::Line), 2),
-        _ => PieceJudged::Bad,
+        [] => Ok(None),
+        [b'\r'] => Ok(None),
+        [b'\r', b'\n'] => Ok(Some((BodyState::Before(Piece::Line), 2))),
+        _ => Err(Stop::Malformed),
     }
 }
 
-fn judge_line(bytes: &[u8]) -> PieceJudged
+fn judge_line(bytes: &[u8]) -> Result<Option<(BodyState, usize)>, Stop>
     requires { length bytes.now ≤ size_line_limit }
     ensures { JudgesPiece result Piece.Line bytes.now }
 {
     match parse_chunk_size(bytes) {
-        Ok(Status::Complete((count, size))) => PieceJudged::Whole(after_size(size), count),
-        Ok(Status::Partial) if bytes.len() < limit(Piece::Line) => PieceJudged::Open,
-        Ok(Status::Partial) => PieceJudged::Bad,
-        Err(_) => PieceJudged::Bad,
+        Ok(Status::Complete((count, size))) => Ok(Some((after_size(size), count))),
+        Ok(Status::Partial) if bytes.len() < limit(Piece::Line) => Ok(None),
+        Ok(Status::Partial) => Err(Stop::Malformed),
+        Err(_) => Err(Stop::Malformed),
     }
 }
 
@@ -90,16 +85,16 @@ fn after_size(size: u64) -> BodyState
     }
 }
 
-fn judge_trailer(bytes: &[u8], spans: &mut [HeaderSpan]) -> PieceJudged
+fn judge_trailer(bytes: &[u8], spans: &mut [HeaderSpan]) -> Result<Option<(BodyState, usize)>, Stop>
     requires few { length bytes.now ≤ head_limit }
     requires spans { length spans.old ≡ 8192 }
     ensures { JudgesPiece result Piece.Trailer bytes.now }
 {
     match parse_headers(bytes, spans) {
-        Ok(Status::Complete((count, _))) => PieceJudged::Whole(BodyState::Done, count),
-        Ok(Status::Partial) if bytes.len() < limit(Piece::Trailer) => PieceJudged::Open,
-        Ok(Status::Partial) => PieceJudged::Bad,
-        Err(_) => PieceJudged::Bad,
+        Ok(Status::Complete((count, _))) => Ok(Some((BodyState::Done, count))),
+        Ok(Status::Partial) if bytes.len() < limit(Piece::Trailer) => Ok(None),
+        Ok(Status::Partial) => Err(Stop::Malformed),
+        Err(_) => Err(Stop::Malformed),
     }
 }
 
@@ -125,13 +120,12 @@ pub(crate) fn take_piece<S: Source>(
     ensures counts { Counts feed.old (S.given source.old) feed.new (S.given source.new) }
 {
     loop {
-        match feed.judge_piece(piece) {
-            PieceJudged::Whole(next, count) => {
+        match feed.judge_piece(piece)? {
+            Some((next, count)) => {
                 feed.skip(count);
                 return Ok(next);
             }
-            PieceJudged::Bad => return Err(Stop::Malformed),
-            PieceJudged::Open => read_on(feed, source, piece)?,
+            None => read_on(feed, source, piece)?,
         }
     }
 }

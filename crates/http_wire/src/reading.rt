@@ -8,7 +8,7 @@ ghost use Rattle.http_wire.specs.Flow.{stream, spent, IsBounded, OnStream, Count
 ghost use Rattle.http_wire.specs.Limits.{feed_limit};
 ghost use Rattle.http_wire.specs.Heads.{Verdict, Holds};
 
-use crate::judge::{Judged, is_blank};
+use crate::judge::is_blank;
 use crate::stop::Stop;
 use crate::{Feed, Heading, Source};
 use std::alloc::Global;
@@ -44,13 +44,12 @@ pub fn read_head<S: Source>(alloc: Global, feed: &mut Feed, source: &mut S) -> H
 {
     loop {
         match feed.judge(alloc) {
-            Judged::Whole(head, count) => {
+            Ok(Some((head, count))) => {
                 feed.skip(count);
                 return Heading::Head(head);
             }
-            Judged::Bad(why) => return Heading::Bad(why.number()),
-            Judged::NoMemory => return Heading::NoMemory,
-            Judged::Open => {}
+            Ok(None) => {}
+            Err(answer) => return answer,
         }
         match feed.refill(source) {
             Ok(()) => {}

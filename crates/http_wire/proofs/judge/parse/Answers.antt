@@ -1,4 +1,4 @@
-use Rattle.std.proofs.Common.{sym, ◌∙◌, ap, Err, length}
+use Rattle.std.proofs.Common.{refl, sym, ◌∙◌, ap, Err, length}
 use Rattle.httparse.specs.Grammar.{HasNoRequest, MayBecomeRequest}
 use Rattle.http_wire.proofs.HeadLaws.{open_without_line, open_unfinished, on_partial, never_after_error}
 use Rattle.http_wire.proofs.judge.parse.Goals as goal
@@ -16,7 +16,6 @@ returns-in-Ok-Partial c =
 
 pub returns-in-Err : goal.returns-in-Err
 returns-in-Err c =
-    let said = c.in-Err.ensures in (
-      sym c.has_line.ensures ∙ c.if-not-has_line.false,
-      never_after_error c.args.bytes.now (length c.args.spans.now) c.in-Err.field-0 c.requires.few c.requires.spans said.invalid (λ same. said.too_many (ap Err same)),
-    )
+    let said = c.in-Err.ensures in
+    let never = never_after_error c.args.bytes.now (length c.args.spans.now) c.in-Err.field-0 c.requires.few c.requires.spans said.invalid (λ same. said.too_many (ap Err same)) in
+    (refl, (sym c.has_line.ensures ∙ c.if-not-has_line.false, never))

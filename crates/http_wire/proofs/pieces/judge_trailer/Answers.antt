@@ -1,4 +1,4 @@
-use Rattle.std.proofs.Common.{ap, length, Err, arith}
+use Rattle.std.proofs.Common.{refl, ap, length, Err, arith}
 use Rattle.httparse.specs.declared.Error.{Error}
 use Rattle.httparse.specs.Grammar.{HasNoSection, MayBecomeSection}
 use Rattle.httparse.specs.Spans.{IsSectionOf}
@@ -23,4 +23,4 @@ returns-in-Ok-Partial c =
 pub returns-in-Err : goal.returns-in-Err
 returns-in-Err c =
     let said = c.in-Err.ensures in
-    trailer_bad c.args.bytes.now (length c.args.spans.now) c.in-Err.field-0 c.requires.few c.requires.spans said.invalid (λ same. said.too_many (ap Err same))
+    (refl, trailer_bad c.args.bytes.now (length c.args.spans.now) c.in-Err.field-0 c.requires.few c.requires.spans said.invalid (λ same. said.too_many (ap Err same)))
