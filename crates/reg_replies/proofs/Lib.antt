@@ -1,0 +1,4 @@
+mod WritingLaws
+mod FieldLaws
+mod ListLaws
+mod JsonLaws
