@@ -1,8 +1,8 @@
 //! What a request asks for.
 use reg_names::{Digest, Name, Reference, Text, UploadId};
 
-/// What a request asks for (OCI Distribution Specification 1.1, "Endpoints"). A reference or an id that is `None` stands
-/// for a text that is none.
+/// What a request asks for (OCI Distribution Specification 1.1, "Endpoints"). A reference or an id
+/// that is `None` stands for a text that is none.
 #[derive(Debug, PartialEq, Eq, Drop)]
 pub enum Ask {
     /// Whether the registry is there.

@@ -137,28 +137,50 @@ abbrev pub optional : List ℕ → Option (List ℕ) → List ℕ
 optional name None = []
 optional name (Some value) = field name value
 
--- whether the connection ends behind the reply
-abbrev pub closing : Bool → Option (List ℕ)
-closing close = if close then Some (codes "close") else None
-
 -- the status line, and the field that each reply has
 abbrev pub opening : Reply → List ℕ
 opening reply =
     codes "HTTP/1.1 " ++ (line_of (status_of reply)
     ++ (crlf ++ field (codes "Docker-Distribution-Api-Version") (codes "registry/2.0")))
 
--- the head of a reply: the status line, the fields that apply, and an empty line
+-- ---- the fields of a reply, each where it applies
+
+abbrev pub type_field : Reply → List ℕ
+type_field reply = optional (codes "Content-Type") (type_of reply)
+
+abbrev pub length_field : Reply → List ℕ
+length_field reply = optional (codes "Content-Length") (option_map decimal (length_of reply))
+
+abbrev pub digest_field : Reply → List ℕ
+digest_field reply = optional (codes "Docker-Content-Digest") (option_map digest_text (digest_of reply))
+
+abbrev pub location_field : Reply → List ℕ
+location_field reply = optional (codes "Location") (location_of reply)
+
+abbrev pub range_field : Reply → List ℕ
+range_field reply = optional (codes "Range") (option_map range_text (offset_of reply))
+
+abbrev pub link_field : Reply → List ℕ
+link_field reply = optional (codes "Link") (link_of reply)
+
+abbrev pub allow_field : Reply → List ℕ
+allow_field reply = optional (codes "Allow") (allow_of reply)
+
+abbrev pub closing_field : Bool → List ℕ
+closing_field close = if close then field (codes "Connection") (codes "close") else []
+
+-- the head of a reply: the status line, the fields in this order, and an empty line
 abbrev pub head_of : Reply → Bool → List ℕ
 head_of reply close =
     opening reply
-    ++ (optional (codes "Content-Type") (type_of reply)
-    ++ (optional (codes "Content-Length") (option_map decimal (length_of reply))
-    ++ (optional (codes "Docker-Content-Digest") (option_map digest_text (digest_of reply))
-    ++ (optional (codes "Location") (location_of reply)
-    ++ (optional (codes "Range") (option_map range_text (offset_of reply))
-    ++ (optional (codes "Link") (link_of reply)
-    ++ (optional (codes "Allow") (allow_of reply)
-    ++ (optional (codes "Connection") (closing close) ++ crlf))))))))
+    ++ (type_field reply
+    ++ (length_field reply
+    ++ (digest_field reply
+    ++ (location_field reply
+    ++ (range_field reply
+    ++ (link_field reply
+    ++ (allow_field reply
+    ++ (closing_field close ++ crlf))))))))
 
 -- the bytes of a reply: its head, and its body where that is not left out; a blob's bytes follow
 abbrev pub wire : Reply → Bool → Bool → List ℕ

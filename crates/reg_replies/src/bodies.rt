@@ -1,14 +1,13 @@
 //! Bodies in JSON.
 ghost use Rattle.std.specs.Prelude.{◌≡◌, codes, IfOk};
 ghost use Rattle.std.specs.List.{join_by};
-ghost use Rattle.std.specs.String.{string_bytes};
 ghost use Rattle.json.specs.Print.{quoted};
 ghost use Rattle.serde_json.specs.Written.{compact_text};
 ghost use Rattle.serde_json.specs.View.{view};
 ghost use Rattle.reg_replies.specs.Json.{detail_json, error_json, refusal_json, tags_json};
 ghost use Rattle.reg_replies.specs.Replies.{body_of};
 ghost use Rattle.reg_replies.specs.InnerBodies.{IsSpelled};
-ghost use Rattle.reg_replies.specs.InnerPushing.{Puts};
+ghost use Rattle.reg_replies.specs.InnerPushing.{Puts, Spells};
 
 use crate::refusals::{Row, row_of};
 use reg_entries::numbers::{METHOD_NOT_ALLOWED, WRONG_START};
@@ -20,7 +19,7 @@ use std::alloc::{AllocError, Global};
 /// The body of a reply that has no manifest.
 pub(crate) fn written_body(alloc: Global, reply: &Reply) -> Result<String, NoMemory>
     requires { IsSpelled reply.now }
-    ensures { IfOk result (λ body. string_bytes body ≡ body_of reply.now) }
+    ensures { Spells result (body_of reply.now) }
 {
     match reply {
         Reply::Base => Ok(String::from_str(alloc, "{}")?),
@@ -35,7 +34,7 @@ pub(crate) fn written_body(alloc: Global, reply: &Reply) -> Result<String, NoMem
 }
 
 fn refusal_text(alloc: Global, number: u8, detail: &Detail) -> Result<String, NoMemory>
-    ensures { IfOk result (λ text. string_bytes text ≡ compact_text (refusal_json number detail.now)) }
+    ensures { Spells result (compact_text (refusal_json number detail.now)) }
 {
     let value = refusal_value(alloc, number, detail)?;
     Ok(value.to_string(alloc)?)
@@ -50,7 +49,8 @@ fn refusal_value(alloc: Global, number: u8, detail: &Detail) -> Result<Value, No
 }
 
 fn error_value(alloc: Global, row: Row, detail: &Value) -> Result<Value, AllocError>
-    ensures { IfOk result (λ v. view v ≡ error_json row.code.now (view detail.now) row.message.now) }
+    ensures { IfOk result
+        (λ v. view v ≡ error_json row.code.now (view detail.now) row.message.now) }
 {
     let (code, message) = (row.code, row.message);
     json!(in alloc; {"code": code, "detail": detail, "message": message})
@@ -68,7 +68,7 @@ fn detail_value(alloc: Global, detail: &Detail) -> Result<Value, NoMemory>
 
 // The text is written without the value: a list may be long.
 fn tags_text(alloc: Global, name: &Name, tags: &Tags) -> Result<String, NoMemory>
-    ensures { IfOk result (λ text. string_bytes text ≡ compact_text (tags_json name.now tags.now)) }
+    ensures { Spells result (compact_text (tags_json name.now tags.now)) }
 {
     let name = name.as_str();
     let mut text = format!(in alloc; "{{\"name\":\"{name}\",\"tags\":[")?;

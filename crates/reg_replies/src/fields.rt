@@ -1,14 +1,12 @@
 //! The fields of a reply, each in a function of its own.
-ghost use Rattle.std.specs.Prelude.{◌≡◌, ◌++◌, codes, length as length_of_list, None, option_map, option_copied};
+ghost use Rattle.std.specs.Prelude.{◌≡◌, ◌++◌, codes, length as length_of_list, Some, option_copied};
 ghost use Rattle.std.specs.List.{join_by};
-ghost use Rattle.std.specs.Fmt.{decimal};
-ghost use Rattle.reg_names.specs.Digests.{digest_text};
-ghost use Rattle.reg_entries.specs.Listing.{last_of};
 ghost use Rattle.reg_entries.specs.Routes.{method_text};
+ghost use Rattle.reg_entries.specs.declared.reply.Reply.TheVariants.{Tags as ListedTags};
 ghost use Rattle.reg_replies.specs.InnerPushing.{Puts};
-ghost use Rattle.reg_replies.specs.Replies.{head_of, opening, field, optional, closing, body_of, type_of, length_of};
-ghost use Rattle.reg_replies.specs.Replies.{digest_of, location_of, offset_of, range_text, link_of, link_text, allow_of};
-ghost use Rattle.reg_replies.specs.Replies.{allow_text, upload_path, content_path};
+ghost use Rattle.reg_replies.specs.Replies.{opening, field, type_field, length_field, digest_field, location_field};
+ghost use Rattle.reg_replies.specs.Replies.{range_field, link_field, allow_field, closing_field, crlf, head_of};
+ghost use Rattle.reg_replies.specs.Replies.{body_of, type_of, digest_of, upload_path, content_path, allow_text};
 
 use crate::status::status_of;
 use reg_entries::numbers::READ_ONLY;
@@ -16,7 +14,8 @@ use reg_entries::{Method, Reply, Route, Tags};
 use reg_names::{Digest, Name, NoMemory, UploadId};
 use std::alloc::Global;
 
-/// Puts the head of a reply behind a text: its status line, its fields and the empty line. `length` is that of its body.
+/// Puts the head of a reply behind a text: its status line, its fields and the empty line. `length`
+/// is that of its body.
 pub(crate) fn push_head(
     alloc: Global,
     out: &mut String,
@@ -50,7 +49,7 @@ fn push_opening(out: &mut String, reply: &Reply) -> Result<(), NoMemory>
 }
 
 fn push_type(out: &mut String, reply: &Reply) -> Result<(), NoMemory>
-    ensures { Puts result out.old out.new (optional (codes "Content-Type") (type_of reply.now)) }
+    ensures { Puts result out.old out.new (type_field reply.now) }
 {
     match media_type(reply) {
         Some(media_type) => push_field(out, "Content-Type", media_type),
@@ -75,7 +74,7 @@ fn media_type(reply: &Reply) -> Option<&'static str>
 
 fn push_length(out: &mut String, reply: &Reply, length: usize) -> Result<(), NoMemory>
     requires { length ≡ length_of_list (body_of reply.now) }
-    ensures { Puts result out.old out.new (optional (codes "Content-Length") (option_map decimal (length_of reply.now))) }
+    ensures { Puts result out.old out.new (length_field reply.now) }
 {
     match reply {
         Reply::Blob { size, .. } => Ok(write!(out, "Content-Length: {size}\r\n")?),
@@ -85,7 +84,7 @@ fn push_length(out: &mut String, reply: &Reply, length: usize) -> Result<(), NoM
 }
 
 fn push_digest(alloc: Global, out: &mut String, reply: &Reply) -> Result<(), NoMemory>
-    ensures { Puts result out.old out.new (optional (codes "Docker-Content-Digest") (option_map digest_text (digest_of reply.now))) }
+    ensures { Puts result out.old out.new (digest_field reply.now) }
 {
     match digest_in(reply) {
         Some(digest) => {
@@ -110,7 +109,7 @@ fn digest_in(reply: &Reply) -> Option<&Digest>
 }
 
 fn push_location(alloc: Global, out: &mut String, reply: &Reply) -> Result<(), NoMemory>
-    ensures { Puts result out.old out.new (optional (codes "Location") (location_of reply.now)) }
+    ensures { Puts result out.old out.new (location_field reply.now) }
 {
     match reply {
         Reply::Started { name, id }
@@ -140,7 +139,8 @@ fn push_content(
     folder: &str,
     digest: &Digest,
 ) -> Result<(), NoMemory>
-    ensures { Puts result out.old out.new (field (codes "Location") (content_path name.now folder.now digest.now)) }
+    ensures { Puts result out.old out.new
+        (field (codes "Location") (content_path name.now folder.now digest.now)) }
 {
     let digest = digest.text(alloc)?;
     let (name, digest) = (name.as_str(), digest.as_str());
@@ -148,7 +148,7 @@ fn push_content(
 }
 
 fn push_range(out: &mut String, reply: &Reply) -> Result<(), NoMemory>
-    ensures { Puts result out.old out.new (optional (codes "Range") (option_map range_text (offset_of reply.now))) }
+    ensures { Puts result out.old out.new (range_field reply.now) }
 {
     let offset = match reply {
         Reply::Started { .. } => 0,
@@ -162,7 +162,7 @@ fn push_range(out: &mut String, reply: &Reply) -> Result<(), NoMemory>
 }
 
 fn push_link(out: &mut String, reply: &Reply) -> Result<(), NoMemory>
-    ensures { Puts result out.old out.new (optional (codes "Link") (link_of reply.now)) }
+    ensures { Puts result out.old out.new (link_field reply.now) }
 {
     match reply {
         Reply::Tags {
@@ -175,7 +175,7 @@ fn push_link(out: &mut String, reply: &Reply) -> Result<(), NoMemory>
 }
 
 fn push_next(out: &mut String, name: &Name, n: u64, tags: &Tags) -> Result<(), NoMemory>
-    ensures { Puts result out.old out.new (optional (codes "Link") (option_map (link_text name.now n) (last_of None tags.now))) }
+    ensures { Puts result out.old out.new (link_field (ListedTags name.now tags.now (Some n))) }
 {
     let Some(last) = tags.as_slice().last() else {
         return Ok(());
@@ -188,7 +188,7 @@ fn push_next(out: &mut String, name: &Name, n: u64, tags: &Tags) -> Result<(), N
 }
 
 fn push_allow(out: &mut String, reply: &Reply) -> Result<(), NoMemory>
-    ensures { Puts result out.old out.new (optional (codes "Allow") (allow_of reply.now)) }
+    ensures { Puts result out.old out.new (allow_field reply.now) }
 {
     match reply {
         Reply::NotAllowed { route } => push_methods(out, *route),
@@ -220,7 +220,7 @@ fn push_listed(out: &mut String, methods: &[Method]) -> Result<(), NoMemory>
 
 // The field of a reply that ends the connection, and the empty line.
 fn push_end(out: &mut String, close: bool) -> Result<(), NoMemory>
-    ensures { Puts result out.old out.new ((optional (codes "Connection") (closing close) ++ codes "\r\n")) }
+    ensures { Puts result out.old out.new (closing_field close ++ crlf) }
 {
     Ok(out.push_str(if close {
         "Connection: close\r\n\r\n"

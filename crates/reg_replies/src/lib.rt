@@ -1,8 +1,8 @@
-//! The one spelling of each reply (RFC 9110, RFC 9112; OCI Distribution Specification 1.1, "Endpoints" and "Error Codes").
-//! `wire` gives the bytes of a reply: its status line, its fields in one order, and its body, which a reply to HEAD
-//! leaves out. A body in JSON is the compact text of a JSON value, and its length is counted. `write_no_memory` writes
-//! the reply for want of memory, and takes none. Sessions write their replies so; the clauses give each byte.
-//! `specs/Replies.antt` has the whole text, field by field, and `specs/Refusals.antt` the table of refusals.
+//! The one spelling of each reply (RFC 9112; OCI Distribution Specification 1.1, "Endpoints").
+//! `wire` gives the bytes of a reply: its status line, its fields in one order, and its body, which
+//! a reply to HEAD leaves out. A JSON body is the compact text of a JSON value. `write_no_memory`
+//! writes the reply for want of memory, and takes none. Sessions reply so; each byte is a clause's:
+//! `specs/Replies.antt` has the whole text field by field, `specs/Refusals.antt` the refusals.
 #![tactic(auto)]
 
 mod bodies;

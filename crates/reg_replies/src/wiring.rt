@@ -11,9 +11,9 @@ use std::alloc::Global;
 /// Memory for a head, in bytes, so that it is seldom moved.
 const HEAD_ROOM: usize = 512;
 
-/// The bytes of a reply (RFC 9112, section 4): its status line, its fields, an empty line, and its body unless
-/// `head_only`, as HEAD asks. A reply that ends the connection says so where `close` is set. Of a blob it is the head
-/// alone: its bytes follow.
+/// The bytes of a reply (RFC 9112, section 4): its status line, its fields, an empty line, and its
+/// body, unless `head_only`, as HEAD asks. Where `close` is set, it says that the connection ends.
+/// Of a blob it is the head alone: the bytes of the blob follow.
 pub fn wire(alloc: Global, reply: &Reply, head_only: bool, close: bool) -> Result<Bytes, NoMemory>
     ensures { IfOk result (λ bytes. bytes ≡ wire_of reply.now head_only close) }
 {
