@@ -1,0 +1,2 @@
+mod CuttingLaws
+mod ColonLaws

@@ -1,0 +1,4 @@
+pub mod Targets
+pub mod Colons
+pub mod Queries
+pub mod InnerCutting

@@ -1,0 +1,102 @@
+-- The target of a request and its parts (RFC 9112, section 3.2; OCI Distribution Specification 1.1, "Endpoints").
+use Rattle.std.specs.Prelude.{ℕ, suc, Bool, ◌&&◌, ◌||◌, ◌==◌, nat_eq, if◌then◌else◌, List, [], ◌∷◌, length, take, drop, codes, Option, Some, None, option_and_then}
+use Rattle.std.specs.List.{position}
+use Rattle.std.specs.Option.{option_map_or}
+use Rattle.std.specs.Cmp.Lexicographic.{pointwise}
+use Rattle.reg_entries.specs.declared.route.Route.{Route}
+use Rattle.reg_entries.specs.declared.route.Route.TheVariants as routes
+use Rattle.reg_routes.specs.declared.target.Spot.{Spot}
+
+-- the two texts are the same
+abbrev pub is : List ℕ → List ℕ → Bool
+is text other = pointwise nat_eq text other
+
+-- the second text begins with the first
+abbrev pub begins : List ℕ → List ℕ → Bool
+begins front text = is (take (length front) text) front
+
+-- ---- path and query
+
+-- what stands on the two sides of a place
+abbrev pub cut_at : List ℕ → Option ℕ → List ℕ × List ℕ
+cut_at text None = (text, [])
+cut_at text (Some at) = (take at text, drop (suc at) text)
+
+-- the path and the query, on the two sides of the first `?`
+abbrev pub cut_query : List ℕ → List ℕ × List ℕ
+cut_query target = cut_at target (position (λ b. b == 63) target)
+
+-- what stands from a place on
+abbrev pub from_place : List ℕ → Option ℕ → List ℕ
+from_place text None = []
+from_place text (Some at) = drop at text
+
+-- what stands from the first slash on
+abbrev pub from_slash : List ℕ → List ℕ
+from_slash text = from_place text (position (λ b. b == 47) text)
+
+-- the path of a target, which may have a scheme and a host in front
+abbrev pub without_origin : List ℕ → List ℕ
+without_origin path =
+    if begins (codes "http://") path then from_slash (drop 7 path)
+    else if begins (codes "https://") path then from_slash (drop 8 path)
+    else path
+
+-- ---- routes
+
+-- a route, the text at the place of the repository's name, and what stands behind the route: a reference, a digest, an
+-- id, or nothing
+pub record Place : Type 0 where
+  pub route : Route
+  pub name : List ℕ
+  pub key : List ℕ
+
+abbrev pub place : Route → List ℕ → List ℕ → Place
+place route name key = record { route = route; name = name; key = key }
+
+-- what stands before and behind the last slash
+abbrev pub cut_last : List ℕ → Option (List ℕ × List ℕ)
+cut_last [] = None
+cut_last (b ∷ text) =
+    option_map_or (λ p. Some (b ∷ p.0, p.1)) (cut_last text) (if b == 47 then Some ([], text) else None)
+
+-- `<name>/tags/list`, `<name>/manifests/<reference>`, `<name>/blobs/uploads`, `<name>/blobs/<digest>`
+abbrev pub spot_in : List ℕ → List ℕ → List ℕ → Option Place
+spot_in name kind last =
+    if is kind (codes "tags") && is last (codes "list") then Some (place routes.Tags name [])
+    else if is kind (codes "manifests") then Some (place routes.Manifest name last)
+    else if is kind (codes "blobs") && is last (codes "uploads") then Some (place routes.Uploads name [])
+    else if is kind (codes "blobs") then Some (place routes.Blob name last)
+    else None
+
+-- `<name>/blobs` before `/uploads/`, and before `/uploads/<id>`
+abbrev pub upload_below : List ℕ → List ℕ × List ℕ → Option Place
+upload_below last (name, folder) =
+    if is folder (codes "blobs") then Some (place (if length last == 0 then routes.Uploads else routes.Upload) name last)
+    else None
+
+abbrev pub upload_in : List ℕ → List ℕ → Option Place
+upload_in front last = option_and_then (upload_below last) (cut_last front)
+
+-- the last segment but one decides, behind which the name stands
+abbrev pub spot_by : List ℕ → List ℕ × List ℕ → Option Place
+spot_by last (name, kind) =
+    if is kind (codes "uploads") then upload_in name last else spot_in name kind last
+
+abbrev pub spot_before : List ℕ × List ℕ → Option Place
+spot_before (front, last) = option_and_then (spot_by last) (cut_last front)
+
+-- the route of what stands behind `/v2/`
+abbrev pub spot_below : List ℕ → Option Place
+spot_below path = option_and_then spot_before (cut_last path)
+
+-- where a path leads to
+abbrev pub spot_at : List ℕ → Option Place
+spot_at path =
+    if is path (codes "/v2") || is path (codes "/v2/") then Some (place routes.Base [] [])
+    else if begins (codes "/v2/") path then spot_below (drop 4 path)
+    else None
+
+-- a spot that a call answers, as its texts
+abbrev pub shown : Spot → Place
+shown spot = place spot.route spot.name.now spot.key.now

@@ -1,0 +1,12 @@
+//! Which of a registry's asks a request is (OCI Distribution Specification 1.1, "Endpoints").
+//! `route` reads the target of a request's head: its path, by the table of routes, and its query. It
+//! gives the ask, or the one refusal that comes first: no route, no method of the route, no name, no
+//! digest. The table of methods is that of `reg_entries`, by which replies say what is allowed.
+//! `specs/Targets.antt` cuts a target into its parts, and `specs/Routing.antt` says what is asked.
+#![tactic(auto)]
+
+mod colons;
+mod query;
+mod target;
+
+pub use target::{Spot, spot_of};
