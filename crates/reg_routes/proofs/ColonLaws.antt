@@ -1,8 +1,8 @@
 -- What a path stands for, from some place on.
-use Rattle.std.proofs.Common.{◌≡◌, ℕ, ◌+◌, ◌-◌, ◌<◌, ◌≤◌, ◌++◌, Bool, true, false, List, [], ◌∷◌, length, take, drop, get_or, refl, sym, ap, ◌∙◌, append_assoc, arith}
+use Rattle.std.proofs.Common.{◌≡◌, ℕ, ◌+◌, ◌-◌, ◌<◌, ◌≤◌, ◌++◌, true, false, List, [], ◌∷◌, length, take, drop, get_or, refl, sym, ap, ◌∙◌, append_assoc, arith}
 use Rattle.std.proofs.lemmas.List.{take_all, length-drop, drop-drop}
 use Rattle.std.proofs.Math.Seq.{drop-cons}
-use Rattle.reg_routes.specs.Colons.{is_colon, begins_colon, with_colons}
+use Rattle.reg_routes.specs.Colons.{begins_colon, with_colons}
 
 colon_first : (text : List ℕ) → begins_colon text ≡ true → with_colons text ≡ 58 ∷ with_colons (drop 3 text)
 colon_first [] h = cc h

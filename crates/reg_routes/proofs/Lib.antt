@@ -1,2 +1,3 @@
 mod CuttingLaws
 mod ColonLaws
+mod TypedLaws

@@ -5,8 +5,15 @@
 //! `specs/Targets.antt` cuts a target into its parts, and `specs/Routing.antt` says what is asked.
 #![tactic(auto)]
 
+mod asking;
 mod colons;
+mod count;
+mod method;
 mod query;
+mod routing;
 mod target;
 
-pub use target::{Spot, spot_of};
+pub use count::COUNT_DIGITS;
+pub use http_wire::Head;
+pub use reg_entries::{Ask, Reply};
+pub use routing::{Unrouted, route};

@@ -10,14 +10,14 @@ use reg_entries::Route;
 /// What a path leads to: a route of a repository, whose name stands at `name`, and what stands
 /// behind it: a reference, a digest or an id, or nothing. Names and keys are not read yet.
 #[derive(Clone, Copy, Debug)]
-pub struct Spot<'t> {
-    pub route: Route,
-    pub name: &'t [u8],
-    pub key: &'t [u8],
+pub(crate) struct Spot<'t> {
+    pub(crate) route: Route,
+    pub(crate) name: &'t [u8],
+    pub(crate) key: &'t [u8],
 }
 
-// The path of a target and its query, which stand on the two sides of its first `?`.
-fn parts_of(target: &[u8]) -> (&[u8], &[u8])
+/// The path of a target and its query, which stand on the two sides of its first `?`.
+pub(crate) fn parts_of(target: &[u8]) -> (&[u8], &[u8])
     ensures path { result.0.now ≡ (cut_query target.now).0 }
     ensures query { result.1.now ≡ (cut_query target.now).1 }
 {
@@ -27,8 +27,8 @@ fn parts_of(target: &[u8]) -> (&[u8], &[u8])
     }
 }
 
-// The path without scheme and host.
-fn path_in(path: &[u8]) -> &[u8]
+/// The path without scheme and host.
+pub(crate) fn path_in(path: &[u8]) -> &[u8]
     ensures { result.now ≡ without_origin path.now }
 {
     if let Some(rest) = path.strip_prefix(b"http://".as_slice()) {
@@ -58,7 +58,7 @@ fn find_byte(bytes: &[u8], byte: u8) -> Option<usize>
 }
 
 /// Where a path leads to, by the table of routes.
-pub fn spot_of(path: &[u8]) -> Option<Spot<'_>>
+pub(crate) fn spot_of(path: &[u8]) -> Option<Spot<'_>>
     ensures { option_map shown result ≡ spot_at path.now }
 {
     if path == b"/v2".as_slice() || path == b"/v2/".as_slice() {

@@ -1,4 +1,4 @@
-use Rattle.std.proofs.Common.{◌≡◌, ◌∙◌, true, false, sym, arith}
+use Rattle.std.proofs.Common.{◌∙◌, sym, arith}
 use Rattle.reg_routes.proofs.ColonLaws.{colon_within, colon_pushed, other_pushed}
 use Rattle.reg_routes.proofs.colons.decoded.Goals as goal
 

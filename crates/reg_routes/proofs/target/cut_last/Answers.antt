@@ -1,5 +1,4 @@
-use Rattle.std.proofs.Common.{◌-◌, ◌+◌, ◌<◌, ◌≤◌, ◌≡◌, length, drop, arith}
-use Rattle.reg_routes.specs.InnerCutting.{IsFree}
+use Rattle.std.proofs.Common.{◌-◌, ◌+◌, ◌≡◌, arith}
 use Rattle.reg_routes.proofs.CuttingLaws.{cut_seen, not_seen}
 use Rattle.reg_routes.proofs.target.cut_last.Goals as goal
 
