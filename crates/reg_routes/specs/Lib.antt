@@ -3,3 +3,4 @@ pub mod Colons
 pub mod Queries
 pub mod Routing
 pub mod InnerCutting
+pub mod InnerAnswers

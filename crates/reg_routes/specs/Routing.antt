@@ -41,10 +41,17 @@ Pairs = List (List ℕ × List ℕ)
 
 -- ---- the routes of a repository
 
+-- the `n` of a query
+abbrev pub count_in : Pairs → Option ℕ
+count_in pairs = option_and_then count_text (value_in (codes "n") pairs)
+
+-- a digest that a query has
+abbrev pub digest_in : List ℕ → Pairs → Option (List ℕ)
+digest_in key pairs = option_and_then digest_named (value_in key pairs)
+
 -- a list of tags: at most `n`, and those above `last`
 abbrev pub tags_ask : List ℕ → Pairs → Answer
-tags_ask name pairs =
-    Ok (asks.Tags name (option_and_then count_text (value_in (codes "n") pairs)) (value_in (codes "last") pairs))
+tags_ask name pairs = Ok (asks.Tags name (count_in pairs) (value_in (codes "last") pairs))
 
 -- a manifest by that reference
 abbrev pub manifest_at : List ℕ → Option Reference → Option (List ℕ) → Method → Answer
@@ -74,8 +81,7 @@ mount_from (Some digest) (Some from) = if is_name from then Some (digest, from) 
 mount_from _ _ = None
 
 abbrev pub mount_in : Pairs → Option (List ℕ × List ℕ)
-mount_in pairs =
-    mount_from (option_and_then digest_named (value_in (codes "mount") pairs)) (value_in (codes "from") pairs)
+mount_in pairs = mount_from (digest_in (codes "mount") pairs) (value_in (codes "from") pairs)
 
 -- an upload, or a mount
 abbrev pub start_ask : List ℕ → Pairs → Answer
@@ -87,7 +93,7 @@ finish_ask name id start None = refuse digest_invalid
 finish_ask name id start (Some digest) = Ok (asks.Finish name id digest start)
 
 abbrev pub upload_ask : List ℕ → Option (List ℕ) → Option ℕ → Pairs → Method → Answer
-upload_ask name id start pairs Put = finish_ask name id start (option_and_then digest_named (value_in (codes "digest") pairs))
+upload_ask name id start pairs Put = finish_ask name id start (digest_in (codes "digest") pairs)
 upload_ask name id start pairs Patch = Ok (asks.Patch name id start)
 upload_ask name id start pairs Delete = Ok (asks.Cancel name id)
 upload_ask name id start pairs _ = Ok (asks.State name id)
@@ -118,24 +124,42 @@ abbrev pub allowed_ask : Place → Option Method → Pairs → Option (List ℕ)
 allowed_ask place None pairs typed start = Err (NotAllowed place.route)
 allowed_ask place (Some method) pairs typed start = place_ask place.route place method pairs typed start
 
+-- the method is looked for among those of the route
+abbrev pub placed_ask : List ℕ → Place → Pairs → Option (List ℕ) → Option ℕ → Answer
+placed_ask method place pairs typed start =
+    allowed_ask place (find (λ m. is method (method_text m)) (methods_of place.route)) pairs typed start
+
 abbrev pub found_ask : List ℕ → Option Place → Pairs → Option (List ℕ) → Option ℕ → Answer
 found_ask method None pairs typed start = refuse route_unknown
-found_ask method (Some place) pairs typed start =
-    allowed_ask place (find (λ m. is method (method_text m)) (methods_of place.route)) pairs typed start
+found_ask method (Some place) pairs typed start = placed_ask method place pairs typed start
+
+-- where the path of a target leads to, and the pairs of its query
+abbrev pub spot_in_target : List ℕ → Option Place
+spot_in_target target = spot_at (with_colons (without_origin (cut_query target).0))
+
+abbrev pub pairs_in : List ℕ → Pairs
+pairs_in target = raw_pairs (cut_query target).1
 
 -- what a request asks for, by its method, its target, its Content-Type and the start that it gives: the first of these
 -- refusals counts: no route, no such method, no name, no digest
 abbrev pub asked : List ℕ → List ℕ → Option (List ℕ) → Option ℕ → Answer
-asked method target typed start =
-    found_ask method (spot_at (with_colons (without_origin (cut_query target).0))) (raw_pairs (cut_query target).1) typed start
+asked method target typed start = found_ask method (spot_in_target target) (pairs_in target) typed start
 
 -- ---- heads
+
+-- the values of the Content-Type fields
+abbrev pub types_of : Head → List (List ℕ)
+types_of head = values_of (codes "content-type") (fields_of head)
+
+-- the start of the first Content-Range
+abbrev pub start_in : Head → Option ℕ
+start_in head = start_of (values_of (codes "content-range") (fields_of head))
 
 -- the text is that of the first Content-Type
 abbrev pub IsTyped : Head → Option (List ℕ) → Type 0
 IsTyped head typed =
-    MatchOption typed (values_of (codes "content-type") (fields_of head) ≡ [])
-    (λ t. (v : List ℕ) × (rest : List (List ℕ)) × (values_of (codes "content-type") (fields_of head) ≡ v ∷ rest) × IsTextOf v t)
+    MatchOption typed (types_of head ≡ [])
+    (λ t. (v : List ℕ) × (rest : List (List ℕ)) × (types_of head ≡ v ∷ rest) × IsTextOf v t)
 
 -- the answer of a call
 abbrev pub Tells : Answer → Result Ask Unrouted → Type 0
@@ -147,4 +171,4 @@ Tells answer (Err unrouted.NoMemory) = ⊤
 abbrev pub Routes : Head → Result Ask Unrouted → Type 0
 Routes head result =
     (typed : Option (List ℕ)) × IsTyped head typed
-    × Tells (asked head.method head.target typed (start_of (values_of (codes "content-range") (fields_of head)))) result
+    × Tells (asked head.method head.target typed (start_in head)) result

@@ -1,10 +1,10 @@
 //! The asks of the routes of a repository.
-ghost use Rattle.std.specs.Prelude.{◌≡◌, IfOk, option_copied, option_and_then, codes, ◌==◌};
+ghost use Rattle.std.specs.Prelude.{◌≡◌, ◌==◌, IfOk, option_copied};
 ghost use Rattle.std.specs.List.{list_any};
 ghost use Rattle.form_urlencoded.specs.Form.{raw_pairs};
 ghost use Rattle.reg_names.specs.Digests.{digest_named};
 ghost use Rattle.reg_names.specs.UploadIds.{upload_id_named};
-ghost use Rattle.reg_routes.specs.Queries.{count_text, value_in};
+ghost use Rattle.reg_routes.specs.InnerAnswers.{Answers};
 ghost use Rattle.reg_routes.specs.Routing as spec;
 ghost use Rattle.reg_routes.specs.Targets.{shown};
 
@@ -26,7 +26,8 @@ pub(crate) fn named_ask(
     typed: Option<&str>,
     start: Option<u64>,
 ) -> Result<Result<Ask, Reply>, NoMemory>
-    ensures { IfOk result (λ a. a ≡ spec.named_ask (shown spot.entry) method (raw_pairs query.now) (option_copied typed.entry) start) }
+    ensures { IfOk result (λ a. a
+        ≡ spec.named_ask (shown spot.entry) method (raw_pairs query.now) (option_copied typed.entry) start) }
 {
     let Some(name) = Name::read_bytes(alloc, spot.name)? else {
         return Ok(Err(refusal(NAME_INVALID)));
@@ -42,7 +43,7 @@ pub(crate) fn named_ask(
 }
 
 fn tags_ask(alloc: Global, name: Name, query: &[u8]) -> Result<Result<Ask, Reply>, NoMemory>
-    ensures { IfOk result (λ a. a ≡ spec.tags_ask name (raw_pairs query.now)) }
+    ensures { Answers result (spec.tags_ask name (raw_pairs query.now)) }
 {
     let n = counted(alloc, query)?;
     let last = value_of(alloc, query, "last")?;
@@ -50,7 +51,7 @@ fn tags_ask(alloc: Global, name: Name, query: &[u8]) -> Result<Result<Ask, Reply
 }
 
 fn counted(alloc: Global, query: &[u8]) -> Result<Option<u64>, NoMemory>
-    ensures { IfOk result (λ n. n ≡ option_and_then count_text (value_in (codes "n") (raw_pairs query.now))) }
+    ensures { Answers result (spec.count_in (raw_pairs query.now)) }
 {
     match value_of(alloc, query, "n")? {
         Some(text) => Ok(count_in(text.as_bytes())),
@@ -65,7 +66,8 @@ fn manifest_ask(
     method: Method,
     typed: Option<&str>,
 ) -> Result<Result<Ask, Reply>, NoMemory>
-    ensures { IfOk result (λ a. a ≡ spec.manifest_ask name key.now (option_copied typed.entry) method) }
+    ensures { IfOk result
+        (λ a. a ≡ spec.manifest_ask name key.now (option_copied typed.entry) method) }
 {
     let at = Reference::read_bytes(alloc, key)?;
     if at.is_none() && has_colon(key) {
@@ -88,7 +90,7 @@ fn has_colon(text: &[u8]) -> bool
 }
 
 fn copied(alloc: Global, text: Option<&str>) -> Result<Option<Text>, NoMemory>
-    ensures { IfOk result (λ t. t ≡ option_copied text.entry) }
+    ensures { Answers result (option_copied text.entry) }
 {
     match text {
         Some(text) => Ok(Some(Text::from_str(alloc, text)?)),
@@ -97,14 +99,14 @@ fn copied(alloc: Global, text: Option<&str>) -> Result<Option<Text>, NoMemory>
 }
 
 fn start_ask(alloc: Global, name: Name, query: &[u8]) -> Result<Result<Ask, Reply>, NoMemory>
-    ensures { IfOk result (λ a. a ≡ spec.start_ask name (raw_pairs query.now)) }
+    ensures { Answers result (spec.start_ask name (raw_pairs query.now)) }
 {
     let mount = mounted(alloc, query)?;
     Ok(Ok(Ask::Start { name, mount }))
 }
 
 fn mounted(alloc: Global, query: &[u8]) -> Result<Option<(Digest, Name)>, NoMemory>
-    ensures { IfOk result (λ m. m ≡ spec.mount_in (raw_pairs query.now)) }
+    ensures { Answers result (spec.mount_in (raw_pairs query.now)) }
 {
     let Some(digest) = digest_in(alloc, query, "mount")? else {
         return Ok(None);
@@ -119,7 +121,7 @@ fn mounted(alloc: Global, query: &[u8]) -> Result<Option<(Digest, Name)>, NoMemo
 }
 
 fn digest_in(alloc: Global, query: &[u8], key: &str) -> Result<Option<Digest>, NoMemory>
-    ensures { IfOk result (λ d. d ≡ option_and_then digest_named (value_in key.now (raw_pairs query.now))) }
+    ensures { Answers result (spec.digest_in key.now (raw_pairs query.now)) }
 {
     match value_of(alloc, query, key)? {
         Some(text) => Ok(Digest::read(text.as_str())),
@@ -135,7 +137,8 @@ fn upload_ask(
     query: &[u8],
     start: Option<u64>,
 ) -> Result<Result<Ask, Reply>, NoMemory>
-    ensures { IfOk result (λ a. a ≡ spec.upload_ask name (upload_id_named key.now) start (raw_pairs query.now) method) }
+    ensures { Answers result
+        (spec.upload_ask name (upload_id_named key.now) start (raw_pairs query.now) method) }
 {
     let id = UploadId::read_bytes(key)?;
     match method {

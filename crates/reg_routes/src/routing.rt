@@ -1,5 +1,5 @@
 //! Routes of requests.
-ghost use Rattle.std.specs.Prelude.{◌≡◌, IfOk, Some, Err, option_copied};
+ghost use Rattle.std.specs.Prelude.{◌≡◌, Err, IfOk, option_copied};
 ghost use Rattle.form_urlencoded.specs.Form.{raw_pairs};
 ghost use Rattle.reg_routes.specs.Routing as spec;
 ghost use Rattle.reg_routes.specs.Targets.{shown};
@@ -50,7 +50,8 @@ fn asked(
     typed: Option<&str>,
     start: Option<u64>,
 ) -> Result<Result<Ask, Reply>, NoMemory>
-    ensures { IfOk result (λ a. a ≡ spec.asked method.now target.now (option_copied typed.entry) start) }
+    ensures { IfOk result
+        (λ a. a ≡ spec.asked method.now target.now (option_copied typed.entry) start) }
 {
     let (path, query) = parts_of(target);
     let path = decoded(alloc, path_in(path))?;
@@ -69,7 +70,8 @@ fn allowed_ask(
     typed: Option<&str>,
     start: Option<u64>,
 ) -> Result<Result<Ask, Reply>, NoMemory>
-    ensures { IfOk result (λ a. a ≡ spec.found_ask method.now (Some (shown spot.entry)) (raw_pairs query.now) (option_copied typed.entry) start) }
+    ensures { IfOk result (λ a. a
+        ≡ spec.placed_ask method.now (shown spot.entry) (raw_pairs query.now) (option_copied typed.entry) start) }
 {
     let Some(method) = method_in(spot.route.methods(), method) else {
         return Ok(Err(Reply::NotAllowed { route: spot.route }));

@@ -125,7 +125,8 @@ fn upload_spot<'t>(front: &'t [u8], last: &'t [u8]) -> Option<Spot<'t>>
 
 // What stands before and behind the last slash.
 fn cut_last(text: &[u8]) -> Option<(&[u8], &[u8])>
-    ensures { MatchOption result (cut_at_slash text.now ≡ None) (λ p. cut_at_slash text.now ≡ Some (p.0.now, p.1.now)) }
+    ensures { MatchOption result (cut_at_slash text.now ≡ None)
+        (λ p. cut_at_slash text.now ≡ Some (p.0.now, p.1.now)) }
 {
     let mut end = text.len();
     while end > 0 {
