@@ -5,7 +5,7 @@ use Rattle.std.proofs.lemmas.List.{take_all, length-drop}
 use Rattle.std.specs.Prelude.{not}
 use Rattle.std.proofs.lemmas.Bool.{and_parts}
 use Rattle.reg_routes.specs.Targets.{cut_last}
-use Rattle.reg_routes.specs.InnerCutting.{IsFree}
+use Rattle.reg_routes.specs.Targets.{IsFree}
 
 not_slash : (b : Bool) → not b ≡ true → b ≡ false
 not_slash false h = refl

@@ -1,3 +1,4 @@
 mod CuttingLaws
 mod ColonLaws
 mod TypedLaws
+mod RouteLaws

@@ -1,5 +1,5 @@
--- The query of a target (URL Standard, "application/x-www-form-urlencoded parsing"). Bytes that are no UTF-8 are read as
--- replacement characters.
+-- The query of a target (URL Standard, "application/x-www-form-urlencoded parsing"). Bytes that are no UTF-8 are read
+-- as replacement characters.
 use Rattle.std.specs.Prelude.{ℕ, ◌&&◌, nat_eq, nat_le, if◌then◌else◌, List, [], ◌∷◌, length, Option, Some, None}
 use Rattle.std.specs.List.{list_all}
 use Rattle.std.specs.Char.{is_ascii_digit}

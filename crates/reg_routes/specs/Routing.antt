@@ -1,5 +1,6 @@
 -- What a request asks for, by its route, its method and its query (OCI Distribution Specification 1.1, "Endpoints").
-use Rattle.std.specs.Prelude.{◌≡◌, ℕ, Bool, ◌==◌, if◌then◌else◌, List, [], ◌∷◌, codes, Option, Some, None, option_and_then, Result, Ok, Err, MatchOption, ⊤}
+use Rattle.std.specs.Prelude.{◌≡◌, ℕ, Bool, ◌==◌, if◌then◌else◌, List, [], ◌∷◌, codes}
+use Rattle.std.specs.Prelude.{Option, Some, None, option_and_then, Result, Ok, Err, MatchOption, ⊤}
 use Rattle.std.specs.List.{list_any, find}
 use Rattle.form_urlencoded.specs.Form.{raw_pairs}
 use Rattle.http_wire.specs.declared.head.Head.{Head}
@@ -103,7 +104,8 @@ repository_ask routes.Base name key method pairs typed start = Ok asks.Base
 repository_ask routes.Tags name key method pairs typed start = tags_ask name pairs
 repository_ask routes.Manifest name key method pairs typed start = manifest_ask name key typed method
 repository_ask routes.Uploads name key method pairs typed start = start_ask name pairs
-repository_ask routes.Upload name key method pairs typed start = upload_ask name (upload_id_named key) start pairs method
+repository_ask routes.Upload name key method pairs typed start =
+    upload_ask name (upload_id_named key) start pairs method
 repository_ask routes.Blob name key method pairs typed start = blob_at name (digest_named key) method
 
 -- ---- all routes

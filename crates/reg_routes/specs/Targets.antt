@@ -1,6 +1,7 @@
 -- The target of a request and its parts (RFC 9112, section 3.2; OCI Distribution Specification 1.1, "Endpoints").
-use Rattle.std.specs.Prelude.{ℕ, suc, Bool, ◌&&◌, ◌||◌, ◌==◌, nat_eq, if◌then◌else◌, List, [], ◌∷◌, length, take, drop, codes, Option, Some, None, option_and_then}
-use Rattle.std.specs.List.{position}
+use Rattle.std.specs.Prelude.{◌≡◌, ◌≢◌, ◌++◌, ℕ, suc, Bool, true, false, not, ◌&&◌, ◌||◌, ◌==◌, nat_eq}
+use Rattle.std.specs.Prelude.{if◌then◌else◌, List, [], ◌∷◌, length, take, drop, codes, Option, Some, None, option_and_then}
+use Rattle.std.specs.List.{position, list_all}
 use Rattle.std.specs.Option.{option_map_or}
 use Rattle.std.specs.Cmp.Lexicographic.{pointwise}
 use Rattle.reg_entries.specs.declared.route.Route.{Route}
@@ -54,6 +55,10 @@ pub record Place : Type 0 where
 abbrev pub place : Route → List ℕ → List ℕ → Place
 place route name key = record { route = route; name = name; key = key }
 
+-- no slash stands in the text
+abbrev pub IsFree : List ℕ → Type 0
+IsFree text = list_all (λ b. not (b == 47)) text ≡ true
+
 -- what stands before and behind the last slash
 abbrev pub cut_last : List ℕ → Option (List ℕ × List ℕ)
 cut_last [] = None
@@ -70,10 +75,12 @@ spot_in name kind last =
     else None
 
 -- `<name>/blobs` before `/uploads/`, and before `/uploads/<id>`
+abbrev pub upload_route : List ℕ → Route
+upload_route last = if length last == 0 then routes.Uploads else routes.Upload
+
 abbrev pub upload_below : List ℕ → List ℕ × List ℕ → Option Place
 upload_below last (name, folder) =
-    if is folder (codes "blobs") then Some (place (if length last == 0 then routes.Uploads else routes.Upload) name last)
-    else None
+    if is folder (codes "blobs") then Some (place (upload_route last) name last) else None
 
 abbrev pub upload_in : List ℕ → List ℕ → Option Place
 upload_in front last = option_and_then (upload_below last) (cut_last front)
@@ -100,3 +107,38 @@ spot_at path =
 -- a spot that a call answers, as its texts
 abbrev pub shown : Spot → Place
 shown spot = place spot.route spot.name.now spot.key.now
+
+-- ---- the table of routes, by the ends of paths
+
+-- a path of a repository, by its name and what follows
+abbrev pub path_below : List ℕ → List ℕ → List ℕ
+path_below name ending = codes "/v2/" ++ (name ++ ending)
+
+-- the path leads to the place
+abbrev pub Leads : List ℕ → Place → Type 0
+Leads path place = spot_at path ≡ Some place
+
+abbrev pub LeadsToBase : Type 0
+LeadsToBase = Leads (codes "/v2") (place routes.Base [] []) × Leads (codes "/v2/") (place routes.Base [] [])
+
+abbrev pub LeadsToTags : Type 0
+LeadsToTags = (name : List ℕ) → Leads (path_below name (codes "/tags/list")) (place routes.Tags name [])
+
+abbrev pub LeadsToManifests : Type 0
+LeadsToManifests =
+    (name key : List ℕ) → IsFree key → Leads (path_below name (codes "/manifests/" ++ key)) (place routes.Manifest name key)
+
+abbrev pub LeadsToUploads : Type 0
+LeadsToUploads =
+    (name : List ℕ) → Leads (path_below name (codes "/blobs/uploads")) (place routes.Uploads name [])
+    × Leads (path_below name (codes "/blobs/uploads/")) (place routes.Uploads name [])
+
+abbrev pub LeadsToUpload : Type 0
+LeadsToUpload =
+    (name id : List ℕ) → IsFree id → id ≢ []
+    → Leads (path_below name (codes "/blobs/uploads/" ++ id)) (place routes.Upload name id)
+
+abbrev pub LeadsToBlobs : Type 0
+LeadsToBlobs =
+    (name key : List ℕ) → IsFree key → is key (codes "uploads") ≡ false
+    → Leads (path_below name (codes "/blobs/" ++ key)) (place routes.Blob name key)

@@ -26,8 +26,9 @@ pub(crate) fn named_ask(
     typed: Option<&str>,
     start: Option<u64>,
 ) -> Result<Result<Ask, Reply>, NoMemory>
-    ensures { IfOk result (λ a. a
-        ≡ spec.named_ask (shown spot.entry) method (raw_pairs query.now) (option_copied typed.entry) start) }
+    ensures { IfOk result (λ a.
+        a ≡ spec.named_ask (shown spot.entry) method (raw_pairs query.now)
+        (option_copied typed.entry) start) }
 {
     let Some(name) = Name::read_bytes(alloc, spot.name)? else {
         return Ok(Err(refusal(NAME_INVALID)));

@@ -8,6 +8,7 @@
 mod asking;
 mod colons;
 mod count;
+mod laws;
 mod method;
 mod query;
 mod routing;
@@ -15,5 +16,6 @@ mod target;
 
 pub use count::COUNT_DIGITS;
 pub use http_wire::Head;
+pub use laws::paths_lead_to_routes;
 pub use reg_entries::{Ask, Reply};
 pub use routing::{Unrouted, route};

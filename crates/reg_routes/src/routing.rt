@@ -70,8 +70,9 @@ fn allowed_ask(
     typed: Option<&str>,
     start: Option<u64>,
 ) -> Result<Result<Ask, Reply>, NoMemory>
-    ensures { IfOk result (λ a. a
-        ≡ spec.placed_ask method.now (shown spot.entry) (raw_pairs query.now) (option_copied typed.entry) start) }
+    ensures { IfOk result (λ a.
+        a ≡ spec.placed_ask method.now (shown spot.entry) (raw_pairs query.now)
+        (option_copied typed.entry) start) }
 {
     let Some(method) = method_in(spot.route.methods(), method) else {
         return Ok(Err(Reply::NotAllowed { route: spot.route }));

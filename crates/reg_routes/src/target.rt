@@ -3,7 +3,7 @@ ghost use Rattle.std.specs.Prelude.{◌≡◌, ◌<◌, ◌==◌, length, Some, 
 ghost use Rattle.std.specs.List.{position};
 ghost use Rattle.reg_routes.specs.Targets.{cut_query, without_origin, from_slash, cut_last as cut_at_slash};
 ghost use Rattle.reg_routes.specs.Targets.{shown, spot_at, spot_below, spot_in, upload_in};
-ghost use Rattle.reg_routes.specs.InnerCutting.{IsFree};
+ghost use Rattle.reg_routes.specs.Targets.{IsFree};
 
 use reg_entries::Route;
 

@@ -1,5 +1,5 @@
 use Rattle.std.proofs.Common.{◌≤◌, length, drop}
-use Rattle.reg_routes.specs.InnerCutting.{IsFree}
+use Rattle.reg_routes.specs.Targets.{IsFree}
 use Rattle.reg_routes.proofs.target.cut_last.Given as goal
 
 -- no slash stands from here on
