@@ -2,3 +2,4 @@ mod CuttingLaws
 mod ColonLaws
 mod TypedLaws
 mod RouteLaws
+mod OnlyLaws

@@ -1,5 +1,5 @@
 -- The target of a request and its parts (RFC 9112, section 3.2; OCI Distribution Specification 1.1, "Endpoints").
-use Rattle.std.specs.Prelude.{◌≡◌, ◌≢◌, ◌++◌, ℕ, suc, Bool, true, false, not, ◌&&◌, ◌||◌, ◌==◌, nat_eq}
+use Rattle.std.specs.Prelude.{◌≡◌, ◌≢◌, ◌⊎◌, ◌++◌, ℕ, suc, Bool, true, false, not, ◌&&◌, ◌||◌, ◌==◌, nat_eq}
 use Rattle.std.specs.Prelude.{if◌then◌else◌, List, [], ◌∷◌, length, take, drop, codes, Option, Some, None, option_and_then}
 use Rattle.std.specs.List.{position, list_all}
 use Rattle.std.specs.Option.{option_map_or}
@@ -142,3 +142,20 @@ abbrev pub LeadsToBlobs : Type 0
 LeadsToBlobs =
     (name key : List ℕ) → IsFree key → is key (codes "uploads") ≡ false
     → Leads (path_below name (codes "/blobs/" ++ key)) (place routes.Blob name key)
+
+-- how the path of a route is spelled
+abbrev pub SpelledBy : Route → List ℕ → List ℕ → List ℕ → Type 0
+SpelledBy routes.Base path name key = (path ≡ codes "/v2") ⊎ (path ≡ codes "/v2/")
+SpelledBy routes.Tags path name key = path ≡ path_below name (codes "/tags/list")
+SpelledBy routes.Manifest path name key = path ≡ path_below name (codes "/manifests/" ++ key)
+SpelledBy routes.Uploads path name key =
+    (path ≡ path_below name (codes "/blobs/uploads")) ⊎ (path ≡ path_below name (codes "/blobs/uploads/"))
+SpelledBy routes.Upload path name key = path ≡ path_below name (codes "/blobs/uploads/" ++ key)
+SpelledBy routes.Blob path name key = path ≡ path_below name (codes "/blobs/" ++ key)
+
+abbrev pub IsSpelled : List ℕ → Place → Type 0
+IsSpelled path p = SpelledBy p.route path p.name p.key
+
+-- a path leads somewhere only where it is spelled so
+abbrev pub LeadsOnlySo : Type 0
+LeadsOnlySo = (path : List ℕ) (p : Place) → Leads path p → IsSpelled path p

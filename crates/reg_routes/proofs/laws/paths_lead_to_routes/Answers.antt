@@ -1,4 +1,5 @@
 use Rattle.reg_routes.proofs.RouteLaws.{base, tags, manifests, uploads, upload, blobs}
+use Rattle.reg_routes.proofs.OnlyLaws.{only}
 use Rattle.reg_routes.proofs.laws.paths_lead_to_routes.Goals as goal
 
 pub returns-clause-base : goal.returns-clause-base
@@ -18,3 +19,6 @@ returns-clause-upload c = upload
 
 pub returns-clause-blobs : goal.returns-clause-blobs
 returns-clause-blobs c = blobs
+
+pub returns-clause-only : goal.returns-clause-only
+returns-clause-only c = only
