@@ -1,6 +1,7 @@
 -- The target of a request and its parts (RFC 9112, section 3.2; OCI Distribution Specification 1.1, "Endpoints").
 use Rattle.std.specs.Prelude.{◌≡◌, ◌≢◌, ◌⊎◌, ◌++◌, ℕ, suc, Bool, true, false, not, ◌&&◌, ◌||◌, ◌==◌, nat_eq}
-use Rattle.std.specs.Prelude.{if◌then◌else◌, List, [], ◌∷◌, length, take, drop, codes, Option, Some, None, option_and_then}
+use Rattle.std.specs.Prelude.{if◌then◌else◌, List, [], ◌∷◌, length, take}
+use Rattle.std.specs.Prelude.{drop, codes, Option, Some, None, option_and_then}
 use Rattle.std.specs.List.{position, list_all}
 use Rattle.std.specs.Option.{option_map_or}
 use Rattle.std.specs.Cmp.Lexicographic.{pointwise}
@@ -126,7 +127,8 @@ LeadsToTags = (name : List ℕ) → Leads (path_below name (codes "/tags/list"))
 
 abbrev pub LeadsToManifests : Type 0
 LeadsToManifests =
-    (name key : List ℕ) → IsFree key → Leads (path_below name (codes "/manifests/" ++ key)) (place routes.Manifest name key)
+    (name key : List ℕ) → IsFree key
+    → Leads (path_below name (codes "/manifests/" ++ key)) (place routes.Manifest name key)
 
 abbrev pub LeadsToUploads : Type 0
 LeadsToUploads =
