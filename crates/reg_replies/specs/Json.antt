@@ -1,6 +1,7 @@
 -- The JSON of replies (RFC 8259): each body is the compact text of its value.
 use Rattle.std.specs.Prelude.{ℕ, List, map, codes, Option, Some, None}
-use Rattle.serde_json.specs.Data.{Data, null, unsigned, number, string, array, object, no_items, item, no_members, member}
+use Rattle.serde_json.specs.Data.{Data, null, unsigned, number, string, array, object}
+use Rattle.serde_json.specs.Data.{no_items, item, no_members, member}
 use Rattle.serde_json.specs.View.{items_of}
 use Rattle.reg_entries.specs.declared.reply.Reply.{Reply}
 use Rattle.reg_entries.specs.declared.reply.Reply.TheVariants as replies

@@ -1,4 +1,5 @@
--- The table of refusals: the status, the code (OCI Distribution Specification 1.1, "Error Codes") and the message of each.
+-- The table of refusals: the status of each, its code (OCI Distribution Specification 1.1, "Error Codes") and its
+-- message.
 use Rattle.std.specs.Prelude.{◌≡◌, ℕ, ◌==◌, if◌then◌else◌, List, codes}
 use Rattle.reg_entries.specs.Numbers as numbers
 use Rattle.reg_replies.specs.declared.status.Status.{Status}

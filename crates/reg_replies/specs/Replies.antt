@@ -1,5 +1,6 @@
 -- The one spelling of each reply (RFC 9112, section 4; OCI Distribution Specification 1.1, "Endpoints").
-use Rattle.std.specs.Prelude.{ℕ, ◌-◌, ◌==◌, Bool, if◌then◌else◌, List, [], ◌++◌, length, codes, Option, Some, None, option_map}
+use Rattle.std.specs.Prelude.{ℕ, ◌-◌, ◌==◌, Bool, if◌then◌else◌, List, []}
+use Rattle.std.specs.Prelude.{◌++◌, length, codes, Option, Some, None, option_map}
 use Rattle.std.specs.List.{join_by}
 use Rattle.std.specs.Option.{option_map_or}
 use Rattle.std.specs.Fmt.{decimal}
@@ -13,8 +14,10 @@ use Rattle.reg_entries.specs.Routes.{methods_of, method_text}
 use Rattle.reg_entries.specs.declared.route.Route.{Route}
 use Rattle.reg_entries.specs.declared.route.Route.TheVariants as routes
 use Rattle.reg_entries.specs.declared.reply.Reply.{Reply}
-use Rattle.reg_entries.specs.declared.reply.Reply.TheVariants.{Base, Manifest, Blob, Tags, Started, Mounted, Patched, Offset}
-use Rattle.reg_entries.specs.declared.reply.Reply.TheVariants.{Finished, Stored, Dropped, Cancelled, WrongStart, NotAllowed, Refused}
+use Rattle.reg_entries.specs.declared.reply.Reply.TheVariants.{Base, Manifest, Blob, Tags}
+use Rattle.reg_entries.specs.declared.reply.Reply.TheVariants.{Started, Mounted, Patched, Offset}
+use Rattle.reg_entries.specs.declared.reply.Reply.TheVariants.{Finished, Stored, Dropped, Cancelled}
+use Rattle.reg_entries.specs.declared.reply.Reply.TheVariants.{WrongStart, NotAllowed, Refused}
 use Rattle.reg_replies.specs.declared.status.Status.{Status}
 use Rattle.reg_replies.specs.declared.status.Status.TheVariants as status
 use Rattle.reg_replies.specs.Statuses.{line_of}

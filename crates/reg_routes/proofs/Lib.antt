@@ -1,0 +1,5 @@
+mod CuttingLaws
+mod ColonLaws
+mod TypedLaws
+mod RouteLaws
+mod OnlyLaws

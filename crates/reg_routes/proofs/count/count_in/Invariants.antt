@@ -1,0 +1,10 @@
+use Rattle.std.proofs.Common.{◌≡◌, ◌^◌, ◌<◌, true, take}
+use Rattle.std.specs.Char.{is_ascii_digit}
+use Rattle.std.specs.List.{list_all}
+use Rattle.std.specs.Str.Parse.{digits_value}
+use Rattle.reg_routes.proofs.count.count_in.Given as goal
+
+-- the value of the digits so far
+abbrev pub invariant-loop-digit : goal.invariant-loop-digit
+invariant-loop-digit l =
+    (list_all is_ascii_digit (take l.digit-index l.text) ≡ true) × (l.value ≡ digits_value 10 (take l.digit-index l.text)) × (l.value < 10 ^ l.digit-index)
