@@ -5,10 +5,12 @@ pub mod Holdings
 pub mod Pages
 pub mod Blobs
 pub mod Stages
+pub mod Changes
 pub mod Streams
 pub mod Ids
 pub mod Calls
 pub mod Memory
+pub mod Slots
 pub mod InnerRanges
 pub mod MemDepot
 pub mod MemBlob

@@ -1,5 +1,5 @@
 -- What the devices in memory hold.
-use Rattle.std.specs.Prelude.{ℕ, Bool, ◌&&◌, ◌==◌, nat_lt, ◌-◌, min, max, List, [], ◌∷◌, length, slice_index_or, replicate, Some, None}
+use Rattle.std.specs.Prelude.{ℕ, Bool, false, ◌&&◌, ◌==◌, nat_lt, ◌-◌, min, max, List, [], ◌∷◌, length, slice_index_or, replicate, Some, None}
 use Rattle.std.specs.List.{slice_get}
 use Rattle.std.specs.Option.{option_map_or}
 use Rattle.depot_api.specs.Files.{Files, with_at}
@@ -7,6 +7,10 @@ use Rattle.depot_api.specs.Files.{Files, with_at}
 -- no file
 abbrev pub no_files : Files
 no_files = λ _. None
+
+-- nothing is lent
+abbrev pub no_loans : List (List ℕ) → Bool
+no_loans = λ _. false
 
 -- files, with those of a list put over them in turn
 abbrev pub with_all : Files → List (List (List ℕ) × List ℕ) → Files

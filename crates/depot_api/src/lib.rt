@@ -17,7 +17,7 @@ mod stream;
 
 pub use blob::{Blob, BlobFault};
 pub use clock::Clock;
-pub use depot::{Depot, Small, pages_agree};
+pub use depot::{Depot, Small, Unplaced, pages_agree};
 pub use ids::Ids;
 pub use limits::{FILE_LIMIT, GIVEN_LIMIT, MOMENT_LIMIT, PART_LIMIT, PATH_LIMIT};
 pub use path::{Part, Path};

@@ -7,6 +7,7 @@ mod content;
 mod depot;
 mod ids;
 mod sink;
+mod slots;
 mod source;
 mod stage;
 

@@ -1,5 +1,5 @@
 //! The bytes of a file in memory.
-ghost use Rattle.std.specs.Prelude.{◌≡◌, ◌≤◌, length, IfOk};
+ghost use Rattle.std.specs.Prelude.{◌≡◌, ◌≤◌, length, vec_len, IfOk};
 ghost use Rattle.depot_api.specs.Limits.{file_limit};
 
 use crate::{Bytes, FILE_LIMIT, NoMemory};
@@ -32,6 +32,25 @@ impl FileBytes {
             return Err(NoMemory);
         }
         Ok(FileBytes { bytes })
+    }
+
+    /// The file of the bytes that a `Vec` holds. It takes no memory.
+    pub fn of_vec(bytes: Vec<u8>) -> FileBytes
+        requires { vec_len bytes ≤ file_limit }
+        ensures { result ≡ bytes.items }
+    {
+        FileBytes {
+            bytes: Bytes::from_vec(bytes),
+        }
+    }
+
+    /// The `Vec` that holds the bytes. It takes no memory.
+    pub fn into_vec(self) -> Vec<u8>
+        ensures bytes { result.items ≡ self }
+        ensures most { vec_len result ≤ file_limit }
+    {
+        let FileBytes { bytes } = self;
+        bytes.into_vec()
     }
 
     /// Equal bytes.

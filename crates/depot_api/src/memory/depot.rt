@@ -1,36 +1,34 @@
 //! A depot in memory.
-ghost use Rattle.std.specs.Prelude.{◌≡◌, ◌≤◌, ◌<◌, nat_lt, [], option_copied, vec_len, take, IfOk};
-ghost use Rattle.std.specs.List.{take_while};
-ghost use Rattle.std.specs.Map.{keys_of};
+ghost use Rattle.std.specs.Prelude.{◌≡◌, ◌≤◌, ◌<◌, nat_lt, [], option_copied, vec_len, IfOk, OnErr};
 ghost use Rattle.std.specs.Option.{option_map};
 ghost use Rattle.reg_names.specs.Cause.{OnlyReads};
 ghost use Rattle.reg_names.specs.Refusals.{HasFailed};
-ghost use Rattle.std.specs.Range.Bound.{bound_map};
 ghost use Rattle.depot_api.specs.Calls.{no_calls, with_fault};
+ghost use Rattle.depot_api.specs.Changes.{Changes, Puts, Lends, Shelves, Places, Removes, IsStanding, IfBack, HasFailedToPlace, bytes_or, with_shelved};
+ghost use Rattle.depot_api.specs.Slots.{staged_at};
 ghost use Rattle.depot_api.specs.Files.{IsUpTo, IsSizeAt, IsSmallAt};
 ghost use Rattle.depot_api.specs.Holdings.{IfFound};
 ghost use Rattle.depot_api.specs.Limits.{file_limit};
 ghost use Rattle.depot_api.specs.Pages.{IsPage, ArePathsAbove};
-ghost use Rattle.depot_api.specs.Memory.{files_of};
-ghost use Rattle.depot_api.specs.InnerRanges.{StartsAt};
-ghost use Rattle.depot_api.specs.Paths.{begins_with};
-ghost use Rattle.depot_api.specs.MemDepot.{depot_files, depot_calls, depot_reads};
+ghost use Rattle.depot_api.specs.Memory.{files_of, no_loans};
+ghost use Rattle.depot_api.specs.MemDepot.{depot_held, depot_files, depot_lent, depot_calls, depot_reads, depot_appends};
 
 use crate::memory::blob::MemBlob;
 use crate::memory::calls::Calls;
 use crate::memory::content::FileBytes;
-use crate::{Bytes, Depot, NoMemory, Path, Refused, Small};
+use crate::memory::slots::Slots;
+use crate::memory::stage::MemStage;
+use crate::{Bytes, Depot, NoMemory, Path, Refused, Small, Stage, Unplaced};
 use std::alloc::Global;
-use std::collections::BTreeMap;
-use std::collections::btree_map::Range;
-use std::ops::Bound;
 
-/// Files in memory. Every call has a number, from 0, but `done`, which cannot fail.
+/// Files in memory. Every call has a number, from 0, but `done` and `shelve`, which cannot fail. A call that fails
+/// makes no change, and a `place` that fails puts the staged bytes back.
 #[derive(Drop)]
 pub struct MemDepot {
-    files: BTreeMap<Path, FileBytes>,
+    slots: Slots,
     calls: Calls,
     reads: Vec<u64>,
+    appends: Vec<u64>,
 }
 
 impl MemDepot {
@@ -42,33 +40,43 @@ impl MemDepot {
         fail: Vec<u64>,
     ) -> Result<MemDepot, NoMemory>
         ensures files { IfOk result (λ d. depot_files d ≡ files_of files.items) }
+        ensures lent { IfOk result (λ d. depot_lent d ≡ no_loans) }
         ensures calls { IfOk result (λ d. depot_calls d ≡ no_calls fail.items) }
         ensures reads { IfOk result (λ d. depot_reads d ≡ []) }
+        ensures appends { IfOk result (λ d. depot_appends d ≡ []) }
     {
-        let mut shelf = BTreeMap::new(alloc);
+        let mut slots = Slots::new(alloc);
         for (path, bytes) in files {
-            let _ = shelf.insert(path, FileBytes::of(bytes)?)?;
+            slots.put(alloc, &path, FileBytes::of(bytes)?)?;
         }
         Ok(MemDepot {
-            files: shelf,
+            slots,
             calls: Calls::new(fail),
             reads: Vec::new(alloc),
+            appends: Vec::new(alloc),
         })
     }
 
     /// The same depot, each of whose blobs fails the reads with these numbers if it is fetched from now on. It takes
     /// no memory.
     pub fn failing_reads(self, reads: Vec<u64>) -> MemDepot
-        ensures files { depot_files result ≡ depot_files self }
+        ensures held { depot_held result ≡ depot_held self }
         ensures calls { depot_calls result ≡ depot_calls self }
         ensures reads { depot_reads result ≡ reads.items }
+        ensures appends { depot_appends result ≡ depot_appends self }
     {
-        let MemDepot { files, calls, .. } = self;
-        MemDepot {
-            files,
-            calls,
-            reads,
-        }
+        MemDepot { reads, ..self }
+    }
+
+    /// The same depot, each of whose stages fails the calls with these numbers if it is lent from now on. It takes no
+    /// memory.
+    pub fn failing_appends(self, appends: Vec<u64>) -> MemDepot
+        ensures held { depot_held result ≡ depot_held self }
+        ensures calls { depot_calls result ≡ depot_calls self }
+        ensures reads { depot_reads result ≡ depot_reads self }
+        ensures appends { depot_appends result ≡ appends.items }
+    {
+        MemDepot { appends, ..self }
     }
 
     /// How often it has failed.
@@ -82,8 +90,11 @@ impl MemDepot {
 impl Depot for MemDepot {
     type B = MemBlob;
 
+    type S = MemStage;
+
     ghost use Rattle.depot_api.specs.MemBlob.{blob_left, blob_reads, blob_faults};
-    ghost use Rattle.depot_api.specs.MemDepot.{depot_files, depot_held, depot_faults, depot_calls, depot_reads, HasCalled};
+    ghost use Rattle.depot_api.specs.MemStage.{stage_held, stage_calls, stage_faults};
+    ghost use Rattle.depot_api.specs.MemDepot.{depot_files, depot_held, depot_faults, depot_calls, depot_reads, depot_appends, HasCalled, KeepsFailing};
 
     ghost held = { depot_held };
 
@@ -93,13 +104,13 @@ impl Depot for MemDepot {
         ensures value { IfOk result (IsSizeAt at.now (depot_files self.old)) }
         ensures most { IfFound result (λ size. size ≤ file_limit) }
         ensures reads { OnlyReads depot_held depot_faults self.old self.new (HasFailed result) }
-        ensures failing { depot_reads self.new ≡ depot_reads self.old }
+        ensures failing { KeepsFailing self.old self.new }
         ensures calls { HasCalled self.old self.new (HasFailed result) }
     {
         if self.calls.begin() {
             return Err(Refused::Failed);
         }
-        match self.files.get(at) {
+        match self.slots.file(at) {
             None => Ok(None),
             Some(file) => Ok(Some(file.bytes().len() as u64)),
         }
@@ -109,13 +120,13 @@ impl Depot for MemDepot {
         ensures value { IfOk result (IsSmallAt at.now most (depot_files self.old)) }
         ensures most { IfOk result (IsUpTo most) }
         ensures reads { OnlyReads depot_held depot_faults self.old self.new (HasFailed result) }
-        ensures failing { depot_reads self.new ≡ depot_reads self.old }
+        ensures failing { KeepsFailing self.old self.new }
         ensures calls { HasCalled self.old self.new (HasFailed result) }
     {
         if self.calls.begin() {
             return Err(Refused::Failed);
         }
-        match self.files.get(at) {
+        match self.slots.file(at) {
             None => Ok(Small::Absent),
             Some(file) if file.bytes().len() as u64 > most => Ok(Small::TooLong),
             Some(file) => Ok(Small::Content(file.bytes().copy(alloc)?)),
@@ -127,13 +138,13 @@ impl Depot for MemDepot {
             option_map blob_left found ≡ depot_files self.old at.now) }
         ensures fresh { IfFound result (λ blob. blob_reads blob ≡ no_calls (depot_reads self.old)) }
         ensures reads { OnlyReads depot_held depot_faults self.old self.new (HasFailed result) }
-        ensures failing { depot_reads self.new ≡ depot_reads self.old }
+        ensures failing { KeepsFailing self.old self.new }
         ensures calls { HasCalled self.old self.new (HasFailed result) }
     {
         if self.calls.begin() {
             return Err(Refused::Failed);
         }
-        match self.files.get(at) {
+        match self.slots.file(at) {
             None => Ok(None),
             Some(file) => Ok(Some(MemBlob::copy_of(alloc, file, &self.reads)?)),
         }
@@ -152,57 +163,116 @@ impl Depot for MemDepot {
         ensures order { IfOk result (λ page.
             ArePathsAbove under.now (option_copied after.entry) page.items) }
         ensures reads { OnlyReads depot_held depot_faults self.old self.new (HasFailed result) }
-        ensures failing { depot_reads self.new ≡ depot_reads self.old }
+        ensures failing { KeepsFailing self.old self.new }
         ensures calls { HasCalled self.old self.new (HasFailed result) }
     {
         if self.calls.begin() {
             return Err(Refused::Failed);
         }
-        let start = first_bound(under, after);
-        let range = self.files.range((start, Bound::Unbounded));
-        Ok(first_paths(alloc, range, under, most)?)
+        Ok(self.slots.page(alloc, under, after, most)?)
+    }
+
+    fn put_small(&mut self, alloc: Global, at: &Path, bytes: &[u8]) -> Result<(), Refused>
+        ensures changes { Changes depot_held depot_faults self.old self.new
+            (Puts at.now bytes.now result) (HasFailed result) }
+        ensures unmade { OnErr result (depot_held self.new ≡ depot_held self.old) }
+        ensures failing { KeepsFailing self.old self.new }
+        ensures calls { HasCalled self.old self.new (HasFailed result) }
+    {
+        if self.calls.begin() {
+            return Err(Refused::Failed);
+        }
+        let file = FileBytes::of(Bytes::from_slice(alloc, bytes)?)?;
+        Ok(self.slots.put(alloc, at, file)?)
+    }
+
+    fn stage(&mut self, alloc: Global, at: &Path) -> Result<Option<MemStage>, Refused>
+        ensures changes { Changes depot_held depot_faults self.old self.new (Lends at.now result)
+            (HasFailed result) }
+        ensures stage { IfFound result (λ stage.
+            stage_held stage ≡ staged_at at.now (bytes_or [] (depot_files self.old) at.now)) }
+        ensures fresh { IfFound result (λ stage.
+            stage_calls stage ≡ no_calls (depot_appends self.old)) }
+        ensures failing { KeepsFailing self.old self.new }
+        ensures calls { HasCalled self.old self.new (HasFailed result) }
+    {
+        if self.calls.begin() {
+            return Err(Refused::Failed);
+        }
+        let stage = MemStage::of(alloc, at, &self.appends)?;
+        match self.slots.lend(alloc, at)? {
+            Some(bytes) => Ok(Some(stage.with_bytes(bytes))),
+            None => Ok(None),
+        }
+    }
+
+    fn shelve(&mut self, stage: MemStage)
+        ensures changes { Changes depot_held depot_faults self.old self.new
+            (Shelves (stage_held stage)) (0 < stage_faults stage) }
+        ensures failing { KeepsFailing self.old self.new }
+        ensures calls { depot_calls self.new
+            ≡ with_fault (depot_calls self.old) (nat_lt 0 (stage_faults stage)) }
+    {
+        self.calls.count_fault(stage.faults() > 0);
+        let (path, bytes) = stage.into_parts();
+        self.slots.shelve(path, bytes);
+    }
+
+    fn place(
+        &mut self,
+        alloc: Global,
+        stage: MemStage,
+        to: &Path,
+    ) -> Result<u64, Unplaced<MemStage>>
+        ensures value { IfOk result (IsStanding (stage_held stage) to.now (depot_files self.old)) }
+        ensures most { IfOk result (λ size. size ≤ file_limit) }
+        ensures changes { Changes depot_held depot_faults self.old self.new
+            (Places (stage_held stage) to.now result) (HasFailedToPlace result) }
+        ensures unmade { HasFailedToPlace result
+            → depot_held self.new ≡ with_shelved (depot_held self.old) (stage_held stage) }
+        ensures back { IfBack result (λ back. back ≡ stage) }
+        ensures failing { KeepsFailing self.old self.new }
+        ensures calls { HasCalled self.old self.new (HasFailedToPlace result) }
+    {
+        if self.calls.begin() {
+            let (path, bytes) = stage.into_parts();
+            self.slots.shelve(path, bytes);
+            return Err(Unplaced::Failed);
+        }
+        if let Some(file) = self.slots.file(to) {
+            let size = file.bytes().len() as u64;
+            self.slots.end_loan(stage.path());
+            return Ok(size);
+        }
+        let Ok(key) = self.slots.lend_instead(alloc, stage.path(), to) else {
+            return Err(Unplaced::NoMemory(stage));
+        };
+        let size = stage.length();
+        let (_, bytes) = stage.into_parts();
+        self.slots.shelve(key, bytes);
+        Ok(size)
+    }
+
+    fn remove(&mut self, _alloc: Global, at: &Path) -> Result<(), Refused>
+        ensures changes { Changes depot_held depot_faults self.old self.new (Removes at.now result)
+            (HasFailed result) }
+        ensures unmade { OnErr result (depot_held self.new ≡ depot_held self.old) }
+        ensures failing { KeepsFailing self.old self.new }
+        ensures calls { HasCalled self.old self.new (HasFailed result) }
+    {
+        if self.calls.begin() {
+            return Err(Refused::Failed);
+        }
+        self.slots.remove(at);
+        Ok(())
     }
 
     fn done(&mut self, blob: MemBlob)
         ensures reads { OnlyReads depot_held depot_faults self.old self.new (0 < blob_faults blob) }
-        ensures failing { depot_reads self.new ≡ depot_reads self.old }
+        ensures failing { KeepsFailing self.old self.new }
         ensures calls { depot_calls self.new
             ≡ with_fault (depot_calls self.old) (nat_lt 0 (blob_faults blob)) }
     {
         self.calls.count_fault(blob.faults() > 0);
-    }
-}
-
-// The paths in front that begin with `under`, as far as `most`.
-fn first_paths(
-    alloc: Global,
-    range: Range<'_, Path, FileBytes>,
-    under: &Path,
-    most: usize,
-) -> Result<Vec<Path>, NoMemory>
-    ensures { IfOk result (λ paths.
-        paths.items ≡ take most (take_while (begins_with under.now) (keys_of range.entry))) }
-{
-    let mut paths = Vec::new(alloc);
-    for (path, _) in range {
-        if paths.len() == most || !path.begins_with(under) {
-            break;
-        }
-        paths.push(path.copy(alloc)?)?;
-    }
-    Ok(paths)
-}
-
-// Where a page begins in the order of paths: above `after`, but not below `under`.
-fn first_bound<'a>(under: &'a Path, after: Option<&'a Path>) -> Bound<&'a Path>
-    ensures { StartsAt (bound_map (λ x. x.now) result) under.now (option_copied after.entry) }
-{
-    let Some(after) = after else {
-        return Bound::Included(under);
-    };
-    if after < under {
-        Bound::Included(under)
-    } else {
-        Bound::Excluded(after)
     }
 }

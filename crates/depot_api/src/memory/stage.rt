@@ -35,6 +35,43 @@ impl MemStage {
         }
     }
 
+    // A stage without bytes, lent from a copy of a path. The calls whose numbers stand in `fail` fail.
+    pub(super) fn of(alloc: Global, path: &Path, fail: &[u64]) -> Result<MemStage, NoMemory>
+        ensures path { IfOk result (λ s. stage_path s ≡ path.now) }
+        ensures bytes { IfOk result (λ s. stage_bytes s ≡ []) }
+        ensures calls { IfOk result (λ s. stage_calls s ≡ no_calls fail.now) }
+    {
+        Ok(MemStage::new(alloc, path.copy(alloc)?, fail.to_vec(alloc)?))
+    }
+
+    // The same stage, with these bytes.
+    pub(super) fn with_bytes(self, bytes: Vec<u8>) -> MemStage
+        requires { vec_len bytes ≤ file_limit }
+        ensures path { stage_path result ≡ stage_path self }
+        ensures bytes { stage_bytes result ≡ bytes.items }
+        ensures calls { stage_calls result ≡ stage_calls self }
+    {
+        let MemStage { path, calls, .. } = self;
+        MemStage { path, bytes, calls }
+    }
+
+    // The path that it was lent from.
+    pub(super) fn path(&self) -> &Path
+        ensures { result.now ≡ stage_path self.now }
+    {
+        &self.path
+    }
+
+    // The path and the bytes, to be put back.
+    pub(super) fn into_parts(self) -> (Path, Vec<u8>)
+        ensures path { result.0 ≡ stage_path self }
+        ensures bytes { result.1.items ≡ stage_bytes self }
+        ensures most { vec_len result.1 ≤ file_limit }
+    {
+        let MemStage { path, bytes, .. } = self;
+        (path, bytes)
+    }
+
     /// The staged bytes.
     pub fn bytes(&self) -> &[u8]
         ensures { result.now ≡ stage_bytes self.now }

@@ -2,7 +2,7 @@ use Rattle.std.proofs.Common.{◌≡◌, ◌++◌, ◌-◌, ◌≤◌, length, t
 use Rattle.std.specs.List.{take_while}
 use Rattle.std.specs.Map.{keys_of}
 use Rattle.depot_api.specs.Paths.{begins_with}
-use Rattle.depot_api.proofs.memory.depot.first_paths.Given as goal
+use Rattle.depot_api.proofs.memory.slots.first_paths.Given as goal
 
 -- the paths so far, with those that the rest of the range adds, are all of them
 abbrev pub invariant-loop-path : goal.invariant-loop-path

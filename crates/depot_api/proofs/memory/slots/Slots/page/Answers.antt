@@ -1,6 +1,6 @@
 use Rattle.depot_api.proofs.PageLaws.{IsPage-from_shown, ArePathsAbove-from_page}
 use Rattle.depot_api.proofs.RangeLaws.{shown_range}
-use Rattle.depot_api.proofs.memory.depot.MemDepotDepot.page.Goals as goal
+use Rattle.depot_api.proofs.memory.slots.Slots.page.Goals as goal
 
 pub returns-clause-value : goal.returns-clause-value
 returns-clause-value c =

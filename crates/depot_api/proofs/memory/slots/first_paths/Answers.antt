@@ -4,7 +4,7 @@ use Rattle.std.specs.Map.{keys_of}
 use Rattle.std.proofs.lemmas.Grind.{common_steps}
 use Rattle.depot_api.specs.Paths.{begins_with}
 use Rattle.depot_api.proofs.RangeLaws.{taken_more}
-use Rattle.depot_api.proofs.memory.depot.first_paths.Goals as goal
+use Rattle.depot_api.proofs.memory.slots.first_paths.Goals as goal
 
 pub loop-path-preserved : goal.loop-path-preserved
 loop-path-preserved c =

@@ -1,6 +1,6 @@
 use Rattle.std.proofs.Common.{sym}
 use Rattle.depot_api.proofs.RangeLaws.{starts_past_after, starts_behind_after}
-use Rattle.depot_api.proofs.memory.depot.first_bound.Goals as goal
+use Rattle.depot_api.proofs.memory.slots.first_bound.Goals as goal
 
 pub returns-then-lt : goal.returns-then-lt
 returns-then-lt c =
