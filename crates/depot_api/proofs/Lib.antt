@@ -5,3 +5,4 @@ pub mod ReadLaws
 pub mod OrderLaws
 pub mod PageLaws
 pub mod RangeLaws
+pub mod SlotLaws

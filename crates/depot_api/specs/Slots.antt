@@ -20,13 +20,12 @@ is_lent None = false
 is_lent (Some (Whole bytes)) = false
 is_lent (Some Lent) = true
 
--- it tells its files, and which paths are lent
+-- what slots hold: the files are told, and which paths are lent
+abbrev pub held_by : (List (List ℕ) → Option Slot) → Holding
+held_by slots = record { tells = true; files = λ q. content (slots q); lent = λ q. is_lent (slots q) }
+
 abbrev pub slots_held : Slots → Holding
-slots_held s = record {
-  tells = true;
-  files = λ q. content (tree.get path_cmp s.slots q);
-  lent = λ q. is_lent (tree.get path_cmp s.slots q);
-}
+slots_held s = held_by (tree.get path_cmp s.slots)
 
 -- these bytes, staged from a path, and told
 abbrev pub staged_at : List (List ℕ) → List ℕ → Staged

@@ -108,9 +108,9 @@ impl Slots {
         ensures { slots_held self.new ≡ with_shelved (slots_held self.old) (staged_at at bytes.items) }
     {
         if self.is_lent(&at) {
-            let put = self.slots.insert(at, Slot::Whole(FileBytes::of_vec(bytes)));
-            prove!(put.is_ok());
-            let _ = put;
+            let Ok(_) = self.slots.insert(at, Slot::Whole(FileBytes::of_vec(bytes))) else {
+                unreachable!()
+            };
         }
     }
 
@@ -164,9 +164,9 @@ fn first_paths(
 {
     let mut paths = Vec::new(alloc);
     for (path, slot) in range {
-        if let Slot::Lent = slot {
+        let Slot::Whole(_) = slot else {
             continue;
-        }
+        };
         if paths.len() == most || !path.begins_with(under) {
             break;
         }
