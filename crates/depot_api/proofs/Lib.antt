@@ -6,3 +6,4 @@ pub mod OrderLaws
 pub mod PageLaws
 pub mod RangeLaws
 pub mod SlotLaws
+pub mod ChangeLaws

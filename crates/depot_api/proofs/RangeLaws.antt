@@ -19,7 +19,7 @@ use Rattle.depot_api.specs.Pages.{is_after, IsAsked, IsPage}
 use Rattle.depot_api.specs.Slots.{content}
 use Rattle.depot_api.specs.declared.memory.slots.Slot.{Slot}
 use Rattle.depot_api.specs.declared.memory.slots.Slot.TheVariants.{Whole, Lent}
-use Rattle.depot_api.proofs.OrderLaws.{path_total, path_same, equal_from, is_le-from, not_gt-from, from_under, below_upto, upto_below}
+use Rattle.depot_api.proofs.OrderLaws.{path_same, equal_from, is_le-from, not_gt-from, from_under, below_upto, upto_below}
 use Rattle.depot_api.proofs.PageLaws.{Shown, IsPage-from_shown}
 
 abbrev Path : Type 0

@@ -6,7 +6,7 @@ use Rattle.std.specs.Option.{option_map_or}
 use Rattle.std.proofs.lemmas.Cmp.{tied_itself}
 use Rattle.depot_api.specs.Paths.{path_cmp, is_at}
 use Rattle.depot_api.specs.Holdings.{Holding}
-use Rattle.depot_api.specs.Changes.{with_file, with_loan, with_put, with_lent, with_shelved, with_placed, bytes_or}
+use Rattle.depot_api.specs.Changes.{with_file, with_loan, with_put, with_lent, with_shelved, with_placed}
 use Rattle.depot_api.specs.Slots.{content, is_lent, held_by, staged_at}
 use Rattle.depot_api.specs.Memory.{no_loans}
 use Rattle.depot_api.specs.Stages.{Staged}
@@ -28,7 +28,7 @@ over_cond : {X Y : Type 0} (F : X → Y) (c : Bool) (x y : X) → F (cond c x y)
 over_cond F true x y = refl
 over_cond F false x y = refl
 
-same_at : (p q : Path) → is_at p q ≡ true → p ≡ q
+pub same_at : (p q : Path) → is_at p q ≡ true → p ≡ q
 same_at p q at = path_same p q (equal_from (path_cmp p q) at)
 
 at_itself : (p : Path) → is_at p p ≡ true

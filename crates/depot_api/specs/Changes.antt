@@ -92,6 +92,16 @@ pub record IsLentOf (before : Holding) (at : List (List ℕ)) (staged : Staged) 
   pub counts : CountsStaged staged
   pub bytes : IsTrue before.tells → staged.bytes ≡ bytes_or [] before.files at
 
+-- what is told, the file at q and whether q is lent are as before
+pub record StaysAt (q : List (List ℕ)) (before now : Holding) : Type 0 where
+  pub tells : now.tells ≡ before.tells
+  pub file : now.files q ≡ before.files q
+  pub loan : now.lent q ≡ before.lent q
+
+-- where the files are told, no path that is lent has one
+abbrev pub HidesLoans : Holding → Type 0
+HidesLoans held = IsTrue held.tells → (q : List (List ℕ)) → IsTrue (held.lent q) → held.files q ≡ None
+
 -- a call that changes: what was made of what is held, and a fault is told only where the depot's count rose
 pub record Changes {D : Type 0} (held : D → Holding) (faults : D → ℕ) (old new : D) (Made : Holding → Holding → Type 0) (told : Type 0) : Type 0 where
   pub made : Made (held old) (held new)

@@ -6,6 +6,7 @@
 #![tactic(auto)]
 
 mod blob;
+mod changes;
 mod clock;
 mod depot;
 mod ids;
@@ -16,6 +17,7 @@ mod stage;
 mod stream;
 
 pub use blob::{Blob, BlobFault};
+pub use changes::{lent_paths_stay_absent, other_paths_stay};
 pub use clock::Clock;
 pub use depot::{Depot, Small, Unplaced, pages_agree};
 pub use ids::Ids;

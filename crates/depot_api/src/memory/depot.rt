@@ -200,10 +200,10 @@ impl Depot for MemDepot {
             return Err(Refused::Failed);
         }
         let stage = MemStage::of(alloc, at, &self.appends)?;
-        match self.slots.lend(alloc, at)? {
-            Some(bytes) => Ok(Some(stage.with_bytes(bytes))),
-            None => Ok(None),
-        }
+        let Some(bytes) = self.slots.lend(alloc, at)? else {
+            return Ok(None);
+        };
+        Ok(Some(stage.with_bytes(bytes)))
     }
 
     fn shelve(&mut self, stage: MemStage)
@@ -235,8 +235,8 @@ impl Depot for MemDepot {
         ensures calls { HasCalled self.old self.new (HasFailedToPlace result) }
     {
         if self.calls.begin() {
-            let (path, bytes) = stage.into_parts();
-            self.slots.shelve(path, bytes);
+            let (from, bytes) = stage.into_parts();
+            self.slots.shelve(from, bytes);
             return Err(Unplaced::Failed);
         }
         if let Some(file) = self.slots.file(to) {

@@ -1,4 +1,4 @@
-use Rattle.std.proofs.Common.{false, ap, sym, ◌∙◌}
+use Rattle.std.proofs.Common.{ap, sym, ◌∙◌}
 use Rattle.depot_api.proofs.FileLaws.{with_all-turn}
 use Rattle.depot_api.proofs.SlotLaws.{none_lent}
 use Rattle.depot_api.proofs.memory.depot.MemDepot.new.Goals as goal

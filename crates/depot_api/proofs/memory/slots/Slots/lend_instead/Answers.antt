@@ -14,6 +14,6 @@ returns-clause-lent c =
     let held = slots_held c.args.self.now in
     let lent = held_lent (tree.get path_cmp c.args.self.now.slots) (tree.get path_cmp c.insert.new.self) to (rw c.in_ok-copy.ensures at c.in_ok-insert.ensures.updates.0) in
     elim c.if-ne.branch [
-      then-ne w ↦ ap slots_held w.self-is ∙ w.end_loan.ensures ∙ ap (λ h. with_loan h from false) lent ∙ lent_instead held from to (apart_from_ne from to w.if-ne.ensures)
-    | else-ne w ↦ ap slots_held w.self-is ∙ lent ∙ lent_itself held from to (same_from_ne from to w.if-ne.ensures)
+      | then-ne w ↦ ap slots_held w.self-is ∙ w.end_loan.ensures ∙ ap (λ h. with_loan h from false) lent ∙ lent_instead held from to (apart_from_ne from to w.if-ne.ensures)
+      | else-ne w ↦ ap slots_held w.self-is ∙ lent ∙ lent_itself held from to (same_from_ne from to w.if-ne.ensures)
     ]

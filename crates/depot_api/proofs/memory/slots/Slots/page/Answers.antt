@@ -1,4 +1,3 @@
-use Rattle.std.proofs.Common.{sym}
 use Rattle.std.proofs.lemmas.Result.{IfOk-weaker}
 use Rattle.depot_api.proofs.PageLaws.{ArePathsAbove-from_page}
 use Rattle.depot_api.proofs.RangeLaws.{IsPage-from_range}
