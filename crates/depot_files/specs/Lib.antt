@@ -1,2 +1,3 @@
 pub mod Silence
 pub mod InnerKinds
+pub mod InnerMoves

@@ -8,8 +8,11 @@
 mod blob;
 mod directory;
 mod error;
+mod loans;
 mod root;
+mod stage;
 mod walk;
 
 pub use blob::FileBlob;
 pub use directory::FileDepot;
+pub use stage::FileStage;

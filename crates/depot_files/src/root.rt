@@ -5,6 +5,8 @@ ghost use Rattle.depot_api.specs.Holdings.{IfFound};
 ghost use Rattle.depot_api.specs.Limits.{file_limit};
 ghost use Rattle.depot_files.specs.declared.root.TheConstants.{MOST_FOLDERS};
 
+mod changes;
+
 use crate::error::{FileError, if_there};
 use depot_api::{FILE_LIMIT, Part, Path};
 use std::alloc::Global;

@@ -4,6 +4,7 @@ ghost use Rattle.std.specs.Option.{option_copied};
 ghost use Rattle.depot_api.specs.Pages.{IsAsked, ArePathsAbove};
 
 use crate::error::FileError;
+use crate::loans::Loans;
 use crate::root::{Entry, Root};
 use depot_api::{Part, Path};
 use reg_names::NoMemory;
@@ -67,6 +68,7 @@ impl Walk {
         &mut self,
         alloc: Global,
         root: &mut Root<R>,
+        loans: &Loans,
         under: &Path,
         after: Option<&Path>,
         most: usize,
@@ -87,7 +89,7 @@ impl Walk {
                 let _ = self.ahead.pop();
                 continue;
             };
-            let Some(file) = self.visit(alloc, root, next.as_str())? else {
+            let Some(file) = self.visit(alloc, root, loans, next.as_str())? else {
                 continue;
             };
             if is_asked(under, page.last().or(after), &file) {
@@ -98,25 +100,26 @@ impl Walk {
         Err(FileError::NoMemory)
     }
 
-    // The path of a file, where one lies there. Of a folder the names come next.
+    // The path of a file, where one lies there that is not lent. Of a folder the names come next.
     fn visit<R: Files + AllocGlobal>(
         &mut self,
         alloc: Global,
         root: &mut Root<R>,
+        loans: &Loans,
         text: &str,
     ) -> Result<Option<Path>, FileError> {
         let Some(path) = Path::read(alloc, text)? else {
             return Ok(None);
         };
         match root.entry(alloc, text, self.is_file_likely(&path))? {
-            Entry::File => Ok(Some(path)),
+            Entry::File if !loans.has(&path) => Ok(Some(path)),
             Entry::Folder(names) => {
                 let first = first_name(self.after.as_ref(), &path);
                 self.ahead
                     .push(Ahead::of_folder(alloc, text, names, first)?)?;
                 Ok(None)
             }
-            Entry::Other => Ok(None),
+            Entry::File | Entry::Other => Ok(None),
         }
     }
 

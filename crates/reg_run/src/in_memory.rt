@@ -1,8 +1,8 @@
 //! The top call over devices in memory.
 ghost use Rattle.std.specs.Prelude.{◌≡◌, [], map, IfOk};
 ghost use Rattle.std.specs.String.{string_bytes};
-ghost use Rattle.depot_api.specs.Memory.{files_of};
-ghost use Rattle.depot_api.specs.MemDepot.{depot_files};
+ghost use Rattle.depot_api.specs.Memory.{files_of, no_loans};
+ghost use Rattle.depot_api.specs.MemDepot.{depot_files, depot_lent};
 ghost use Rattle.depot_api.specs.MemSource.{source_left};
 ghost use Rattle.depot_api.specs.MemSink.{sink_taken};
 ghost use Rattle.reg_run.specs.Arguments.{AreArguments};
@@ -63,7 +63,8 @@ fn run_over(
     input: &mut MemSource,
     out: &mut MemSink,
 ) -> (u8, u64)
-    requires { AreArguments (map string_bytes arguments.now) }
+    requires arguments { AreArguments (map string_bytes arguments.now) }
+    requires lent { depot_lent depot ≡ no_loans }
     ensures { result.1 ≡ 0 → sink_taken out.old ≡ []
         → Answers (depot_files depot) (source_left input.old) result.0 (sink_taken out.new) }
 {
