@@ -1,6 +1,6 @@
 #!/usr/bin/env bash
 # Reads 200,000 heads of 300 bytes, and bodies of 64 MB in chunks of 32 KB and of 10 bytes. Prints how many heads are read in a
-# second and the time of one; and for each body, read into a room and put into a stage, how many MB in a second; each with the
+# second and the time of one; and for each body, read into a buffer and put into a stage, how many MB in a second; each with the
 # ratio to the time of copying its stream. All are processor times, the least of nine runs, without that of getting the input.
 # Ends with status 1 where a run fails or counts wrongly.
 # The streams are made below a temporary directory and are removed at the end. Build the program first: `rt run` in crates/wire_speed.
