@@ -2,9 +2,12 @@
 # Pulls through `once`: a blob of 200 MB, as a ratio to `cat` and with the memory it takes; manifests of 64, 512 and 4,096 KB
 # by tag; a manifest by tag from a repository of 10 and of 10,000 tags; the lists of 1,000 and of 10,000 tags, each of which
 # has pointed to one manifest, of 1,000 that have pointed to ten, of 10,000 that point to ten manifests, and of 100 that point to
-# one of 4 MB. Each time is the best of five runs. Where strace is installed, prints how many system calls a tag takes.
+# one of 4 MB. Each time is the best of five runs. Where strace is installed, prints how many system calls a small file takes, by a pull
+# by tag beside one by digest, and how many a tag of a list.
 # Ends with status 1 where a reply is not 200 with its content; where the blob is sent at less than half the speed of `cat`;
-# where that takes 12 MB of memory or more; or where a list of 100 tags takes more than 1.5 times that of one.
+# where that takes 12 MB of memory or more; where a list of 100 tags takes more than 1.5 times that of one; where a small file takes
+# more than 5 system calls and one for each folder above it that was not seen before; or where a tag of a list takes more than 25, or
+# 40 with an old link.
 # The folders are made below a temporary directory and are removed at the end. Build the program first: `make demo`.
 #     bench/pulls.sh PROGRAM [MEGABYTES [TAGS]]
 # shellcheck source=bench/timing.sh
@@ -88,6 +91,7 @@ for depot, count, contents in (("ten", tags, [manifest.ljust(512 + n) for n in r
                                ("large", 100, [manifest.ljust(4 << 20)]), ("one-large", 1, [manifest.ljust(4 << 20)])):
     put_tags(depot, [f"w{n}" for n in range(count)], put_manifests(depot, contents), [])
 ask("pull-tag", "manifests/v1")
+ask("pull-digest", f"manifests/sha256:{m1}")
 ask("list-tags", "tags/list")
 PYTHON
 
@@ -158,11 +162,28 @@ awk -v n="$tenth" -v all="$tags" -v s="$short" -v l="$long" -v m="$moved" 'BEGIN
     printf "tags that have pointed to ten manifests: %.1f us a tag of %d\n", m / n, n
 }'
 
-for depot in bare all; do
-    calls=$(system_calls "$program" once --root "$work/$depot" < "$work/list-tags") || fail "no system calls were counted"
-    [ -z "$calls" ] || awk -v d="$depot" -v n="$tags" -v c="$calls" \
-        'BEGIN { printf "%.1f system calls a tag of %d %s\n", c / n, n, d == "bare" ? "without index folders" : "with one each" }'
-done
+# How many system calls the answer takes.
+calls_of() { system_calls "$program" once --root "$work/$1" < "$work/$2"; }
+
+# By tag one file more is read, the tag's link, and three folders above it are looked at: `tags`, the tag's own, and `current`.
+expect few pull-digest manifest
+by_tag=$(calls_of few pull-tag) || fail "no system calls were counted"
+by_digest=$(calls_of few pull-digest) || fail "no system calls were counted"
+if [ -n "$by_tag" ]; then
+    echo "manifest: $by_tag system calls by tag, $((by_tag - by_digest)) of them for the tag's link and three folders above it"
+    at_most 1 "$((by_tag - by_digest))" $((5 + 3)) || fail "a small file takes more than 5 system calls and one for each new folder"
+fi
+
+# Prints how many system calls a tag of a list takes, of which at most so many are due.
+calls_of_tags() {
+    local calls
+    calls=$(calls_of "$1" list-tags) || fail "no system calls were counted"
+    [ -n "$calls" ] || return 0
+    awk -v w="$3" -v n="$tags" -v c="$calls" 'BEGIN { printf "%.1f system calls a tag of %d %s\n", c / n, n, w }'
+    at_most 1 "$calls" $(($2 * tags)) || fail "a tag of a list takes more than $2 system calls $3"
+}
+calls_of_tags bare 25 "without index folders"
+calls_of_tags all 40 "with one each"
 
 # Prints how long a list takes, and its ratio to one of a single tag.
 beside_one() {

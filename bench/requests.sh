@@ -1,13 +1,19 @@
 #!/usr/bin/env bash
 # Reads 200,000 heads of 300 bytes, and bodies of 64 MB in chunks of 32 KB and of 10 bytes. Prints how many heads are read in a
-# second and the time of one; and for each body, read into a room and put into a stage, how many MB in a second; each with the
+# second and the time of one; and for each body, read into a buffer and put into a stage, how many MB in a second; each with the
 # ratio to the time of copying its stream. All are processor times, the least of nine runs, without that of getting the input.
-# Ends with status 1 where a run fails or counts wrongly.
+# Ends with status 1 where a run fails or counts wrongly. With `-b BEFORE`, an earlier build of the program, each line stands twice,
+# that of BEFORE first.
 # The streams are made below a temporary directory and are removed at the end. Build the program first: `rt run` in crates/wire_speed.
-#     bench/requests.sh PROGRAM [HEADS [MEGABYTES]]
+#     bench/requests.sh [-b BEFORE] PROGRAM [HEADS [MEGABYTES]]
 # shellcheck source=bench/timing.sh
 . "$(dirname "$0")/timing.sh"
-program=$(program_at "${1:?"the built program wire_speed"}") || fail "no program: $1"
+programs=()
+if [ "${1-}" = -b ]; then
+    programs+=("$(program_at "${2:?"an earlier build of wire_speed"}")") || fail "no program: $2"
+    shift 2
+fi
+programs+=("$(program_at "${1:?"the built program wire_speed"}")") || fail "no program: $1"
 cd "$(dirname "$0")/.."
 heads=${2:-200000}
 megabytes=${3:-64}
@@ -61,20 +67,36 @@ expect_counts() {
     expect copy "$1" "0 requests, $(stat -c %s "$work/$1") bytes"
 }
 
-expect_counts heads "$heads requests, 0 bytes"
-read=$(beside_input read heads)
-copy=$(beside_input copy heads)
-awk -v n="$heads" -v r="$read" -v c="$copy" \
-    'BEGIN { printf "heads of 300 bytes: %.0f a second, %.2f us each, %.1f times a copy\n", n / r * 1e6, r / n, r / c }'
+# Prints the time of each head, of the program that is set.
+time_heads() {
+    local read copy
+    expect_counts heads "$heads requests, 0 bytes"
+    read=$(beside_input read heads)
+    copy=$(beside_input copy heads)
+    awk -v n="$heads" -v r="$read" -v c="$copy" \
+        'BEGIN { printf "heads of 300 bytes: %.0f a second, %.2f us each, %.1f times a copy\n", n / r * 1e6, r / n, r / c }'
+}
 
-for size in 32768 10; do
-    stream=chunks-$size
-    bytes=$(((megabytes << 20) / size * size))
+# Prints how fast a body in chunks of this size is read or staged.
+time_body() {
+    local stream=chunks-$1 bytes=$(((megabytes << 20) / $1 * $1)) copy time
     expect_counts "$stream" "1 requests, $bytes bytes"
     copy=$(beside_input copy "$stream")
+    time=$(beside_input "$2" "$stream")
+    awk -v s="$stream" -v w="$2" -v n="$bytes" -v t="$time" -v c="$copy" \
+        'BEGIN { printf "%-12s %-5s: %5.0f MB/s, %.1f times a copy\n", s, w, n / t, t / c }'
+}
+
+# Does the same for each program.
+of_each() {
+    for program in "${programs[@]}"; do
+        "$@"
+    done
+}
+
+of_each time_heads
+for size in 32768 10; do
     for way in read stage; do
-        time=$(beside_input "$way" "$stream")
-        awk -v s="$stream" -v w="$way" -v n="$bytes" -v t="$time" -v c="$copy" \
-            'BEGIN { printf "%-12s %-5s: %5.0f MB/s, %.1f times a copy\n", s, w, n / t, t / c }'
+        of_each time_body "$size" "$way"
     done
 done

@@ -1,18 +1,18 @@
 //! Single heads.
-use depot_api::memory::MemSource;
-use depot_api::{Bytes, NoMemory};
+use crate::sources::source_of;
+use depot_api::NoMemory;
 use http_wire::{
     Feed, Field, Framing, Head, Heading, content_type, ends_connection, expects_continue, framing,
     range_start, read_head,
 };
 use std::alloc::Global;
 
+// The head that the bytes begin with. No read behind the last of them is needed for one.
 fn head_of(alloc: Global, bytes: &[u8]) -> Result<Option<Head>, NoMemory> {
-    let bytes = Bytes::from_slice(alloc, bytes)?;
-    let mut source = MemSource::new(alloc, bytes, Vec::new(alloc), Vec::new(alloc))?;
+    let mut source = source_of(alloc, bytes)?;
     let mut feed = Feed::new(alloc)?;
     match read_head(alloc, &mut feed, &mut source) {
-        Heading::Head(head) => Ok(Some(head)),
+        Heading::Head(head) if source.faults() == 0 => Ok(Some(head)),
         _ => Ok(None),
     }
 }

@@ -5,6 +5,7 @@
 #![tactic(auto)]
 
 mod heads;
+mod sources;
 mod stages;
 mod streams;
 

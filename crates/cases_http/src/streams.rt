@@ -1,7 +1,7 @@
-//! Streams of requests, which come byte by byte. The read behind the last byte fails, and those
-//! after it find the end.
+//! Streams of requests.
+use crate::sources::{Faults, source_of};
+use depot_api::NoMemory;
 use depot_api::memory::MemSource;
-use depot_api::{Bytes, NoMemory};
 use http_wire::{
     BodyReader, BodyStep, Feed, Head, Heading, MALFORMED, TOO_LARGE, ends_connection, framing,
     read_body, read_head,
@@ -16,13 +16,12 @@ pub fn answer(alloc: Global, bytes: &[u8]) -> Result<String, NoMemory> {
         Ending::Here(words) => (words, 0),
         Ending::AtEnd(words) => (words, 1),
     };
-    let (faults, told) = (stream.source.faults(), stream.told);
+    let faults = Faults {
+        met: stream.source.faults(),
+        told: stream.told,
+    };
     let text = String::from_utf8_lossy(alloc, &stream.text)?;
-    if faults == due && told == due {
-        Ok(format!(in alloc; "\"{text}\" {words}")?)
-    } else {
-        Ok(format!(in alloc; "\"{text}\" {words}, after {faults} faults, {told} told")?)
-    }
+    Ok(format!(in alloc; "\"{text}\" {words}{}", faults.remark(alloc, due)?)?)
 }
 
 // How the requests end: by what has come, or where no more comes, which only a read behind the last
@@ -46,12 +45,8 @@ struct Stream {
 
 impl Stream {
     fn new(alloc: Global, bytes: &[u8]) -> Result<Stream, NoMemory> {
-        let behind = bytes.len();
-        let bytes = Bytes::from_slice(alloc, bytes)?;
-        let pieces = vec![in alloc; 1; behind.saturating_add(1)]?;
-        let fail = vec![in alloc; behind as u64; 1]?;
         Ok(Stream {
-            source: MemSource::new(alloc, bytes, pieces, fail)?,
+            source: source_of(alloc, bytes)?,
             feed: Feed::new(alloc)?,
             text: Vec::new(alloc),
             told: 0,

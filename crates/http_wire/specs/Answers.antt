@@ -17,10 +17,17 @@ abbrev pub IfBad : Heading → (ℕ → Type 0) → Type 0
 IfBad (headings.Bad number) P = P number
 IfBad answer P = ⊤
 
+-- the numbers of the refusals: of a malformed head, and of one that is too large
+abbrev pub malformed : ℕ
+malformed = 18
+
+abbrev pub too_large : ℕ
+too_large = 19
+
 -- why a head is refused, by the number of the refusal
 abbrev pub IsBadHead : List ℕ → ℕ → Type 0
 IsBadHead bytes number =
-    ((number ≡ 18) × Holds bytes is_malformed) ⊎ ((number ≡ 19) × Holds bytes is_too_large)
+    ((number ≡ malformed) × Holds bytes is_malformed) ⊎ ((number ≡ too_large) × Holds bytes is_too_large)
 
 -- a head was taken off the stream; else the stream is as it was
 abbrev pub TellsHead : Heading → List ℕ → List ℕ → Type 0

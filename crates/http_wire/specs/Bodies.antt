@@ -1,5 +1,5 @@
 -- Bodies (RFC 9112, sections 6 and 7): what a reader that stands somewhere in a body reads of the bytes to come.
-use Rattle.std.specs.Prelude.{◌≡◌, ℕ, ◌-◌, ◌<◌, ◌≤◌, ◌⊎◌, ◌==◌, if◌then◌else◌, List, [], ◌∷◌, ◌++◌, length, take, drop, All, ⊤}
+use Rattle.std.specs.Prelude.{◌≡◌, ℕ, ◌-◌, ◌<◌, ◌≤◌, ◌⊎◌, ◌==◌, if◌then◌else◌, List, [], ◌∷◌, ◌++◌, length, take, drop, All, Option, Some, None, ⊤}
 use Rattle.http_wire.specs.Limits.{size_line_limit, trailer_limit}
 use Rattle.httparse.specs.Grammar.{LineEnd, Field, IsField, print_section, ChunkLine, IsChunkLine, print_chunk_line, chunk_size}
 use Rattle.http_wire.specs.declared.body.BodyState.{BodyState}
@@ -107,6 +107,11 @@ Stops (states.Before piece) bytes decoded outcome =
     ⊎ (IsCutAt piece bytes × (outcome ≡ is_cut_short)))
 Stops states.Done bytes decoded outcome = (decoded ≡ []) × (outcome ≡ ends_before bytes)
 Stops states.Refused bytes decoded outcome = (decoded ≡ []) × (outcome ≡ is_malformed)
+
+-- the same, and nothing is to come, where it is told how the body ends
+abbrev pub EndsIf : Option Outcome → BodyState → List ℕ → Type 0
+EndsIf (Some outcome) state rest = Stops state rest [] outcome
+EndsIf None state rest = ⊤
 
 -- what a reader that stands there makes of the bytes to come: the decoded body, and how it ends
 pub data Runs : BodyState → List ℕ → List ℕ → Outcome → Type 0 where

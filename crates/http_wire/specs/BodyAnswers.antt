@@ -1,5 +1,5 @@
 -- What an answer on a body says of the stream, before the call and after it.
-use Rattle.std.specs.Prelude.{◌≡◌, ℕ, ◌≤◌, ◌<◌, List, [], take, ⊤}
+use Rattle.std.specs.Prelude.{◌≡◌, ℕ, ◌≤◌, ◌<◌, List, take, Option, Some, None, ⊤}
 use Rattle.http_wire.specs.declared.head.Framing.{Framing}
 use Rattle.http_wire.specs.declared.head.Framing.TheVariants as framings
 use Rattle.http_wire.specs.declared.body.BodyReader.{BodyReader}
@@ -8,7 +8,7 @@ use Rattle.http_wire.specs.declared.body.BodyState.TheVariants as states
 use Rattle.http_wire.specs.declared.body.BodyStep.{BodyStep}
 use Rattle.http_wire.specs.declared.body.BodyStep.TheVariants as steps
 use Rattle.http_wire.specs.declared.body.Piece.TheVariants as pieces
-use Rattle.http_wire.specs.Bodies.{ends_before, is_cut_short, is_malformed, Stops}
+use Rattle.http_wire.specs.Bodies.{Outcome, ends_before, is_cut_short, is_malformed, EndsIf}
 
 -- where a reader stands
 abbrev pub state_of : BodyReader → BodyState
@@ -34,12 +34,16 @@ count_of step = 0
 abbrev pub given : BodyStep → List ℕ → List ℕ
 given step buffer = take (count_of step) buffer
 
--- no step more, where a step says how the body ends: nothing is to come, and the reader stands before what ends it
+-- how the body ends, where a step says that, and the bytes behind it
+abbrev pub step_outcome : BodyStep → List ℕ → Option Outcome
+step_outcome steps.End rest = Some (ends_before rest)
+step_outcome steps.Cut rest = Some is_cut_short
+step_outcome steps.Bad rest = Some is_malformed
+step_outcome step rest = None
+
+-- then no step is left: the reader stands before what ends the body
 abbrev pub IsStepEnd : BodyStep → BodyState → List ℕ → Type 0
-IsStepEnd steps.End state rest = Stops state rest [] (ends_before rest)
-IsStepEnd steps.Cut state rest = Stops state rest [] is_cut_short
-IsStepEnd steps.Bad state rest = Stops state rest [] is_malformed
-IsStepEnd step state rest = ⊤
+IsStepEnd step state rest = EndsIf (step_outcome step rest) state rest
 
 -- what a step can answer inside data of which so many bytes are to come, whatever the source is
 abbrev pub IsOfData : ℕ → BodyStep → Type 0

@@ -1,11 +1,11 @@
 -- Bodies of at most so many bytes, which are put into a stage.
-use Rattle.std.specs.Prelude.{◌≡◌, ℕ, ◌+◌, ◌-◌, ◌<◌, ◌≤◌, IsTrue, List, [], ◌++◌, length, take, ⊤}
+use Rattle.std.specs.Prelude.{◌≡◌, ℕ, ◌+◌, ◌-◌, ◌<◌, ◌≤◌, IsTrue, List, [], ◌++◌, length, take, Option, Some, None, ⊤}
 use Rattle.depot_api.specs.Stages.{Staged}
 use Rattle.http_wire.specs.declared.body.BodyState.{BodyState}
 use Rattle.http_wire.specs.declared.body.BodyState.TheVariants as states
 use Rattle.http_wire.specs.declared.body.BodyTaken.{BodyTaken}
 use Rattle.http_wire.specs.declared.body.BodyTaken.TheVariants as answers
-use Rattle.http_wire.specs.Bodies.{due, less, Outcome, ends_before, is_cut_short, is_malformed, Goes, Stops}
+use Rattle.http_wire.specs.Bodies.{due, less, Outcome, ends_before, is_cut_short, is_malformed, Goes, Stops, EndsIf}
 
 -- how a body ends of which so many bytes may come: as any does, or it is too long
 pub data Filling : Type 0 where
@@ -72,12 +72,16 @@ abbrev pub TakesBody : BodyTaken → ℕ → BodyState → List ℕ → BodyStat
 TakesBody answer most first old last new before now =
     (given : List ℕ) × FillsOn most first old given last new × GainsGiven answer before now given (due last) new
 
--- no step more, where the answer says how the body ended: the next call says the same
+-- how the body ended, where the answer says that, and the bytes behind it
+abbrev pub taking_outcome : BodyTaken → List ℕ → Option Outcome
+taking_outcome (answers.Whole n) rest = Some (ends_before rest)
+taking_outcome answers.Cut rest = Some is_cut_short
+taking_outcome answers.Bad rest = Some is_malformed
+taking_outcome answer rest = None
+
+-- then no step is left: the next call says the same
 abbrev pub IsTakingEnd : BodyTaken → BodyState → List ℕ → Type 0
-IsTakingEnd (answers.Whole n) last rest = Stops last rest [] (ends_before rest)
-IsTakingEnd answers.Cut last rest = Stops last rest [] is_cut_short
-IsTakingEnd answers.Bad last rest = Stops last rest [] is_malformed
-IsTakingEnd answer last rest = ⊤
+IsTakingEnd answer last rest = EndsIf (taking_outcome answer rest) last rest
 
 -- after so many decoded bytes: where the body is too long those that are due would pass the limit, and at the other
 -- answers they would not. A stage fails only where data are due, and it may hold some of them

@@ -11,14 +11,15 @@ use Rattle.httparse.specs.Spans.{IsRequestOf, IsRequestWithin}
 use Rattle.http_wire.specs.declared.head.Heading.{Heading}
 use Rattle.http_wire.specs.declared.head.Heading.TheVariants as headings
 use Rattle.http_wire.specs.declared.head.Head.{Head}
+use Rattle.http_wire.specs.Answers.{malformed, too_large}
 use Rattle.http_wire.specs.Fields.{Shows}
 use Rattle.http_wire.specs.Heads.{HasManyFields, IsHopeless, IsOpen}
 
 -- the answer refuses the bytes, or says nothing of them
 abbrev pub Refuses : Heading → List ℕ → Type 0
 Refuses (headings.Bad number) bytes =
-    ((number ≡ 18) × IsHopeless bytes)
-    ⊎ ((number ≡ 19) × (((length bytes ≡ head_limit) × IsOpen bytes) ⊎ HasManyFields bytes))
+    ((number ≡ malformed) × IsHopeless bytes)
+    ⊎ ((number ≡ too_large) × (((length bytes ≡ head_limit) × IsOpen bytes) ⊎ HasManyFields bytes))
 Refuses headings.NoMemory bytes = ⊤
 Refuses answer bytes = ⊥
 
@@ -34,7 +35,7 @@ Judges (Err answer) bytes = Refuses answer bytes
 abbrev pub Parses : Result (Option RequestSpans) Heading → List HeaderSpan → List ℕ → Type 0
 Parses (Ok (Some found)) spans bytes = IsRequestWithin bytes spans found × IsRequestOf bytes spans found
 Parses (Ok None) spans bytes = IsOpen bytes
-Parses (Err answer) spans bytes = (answer ≡ headings.Bad 18) × IsHopeless bytes
+Parses (Err answer) spans bytes = (answer ≡ headings.Bad malformed) × IsHopeless bytes
 
 -- whether bytes at whose end the input ends are CR and LF alone
 abbrev pub EndsAs : Heading → List ℕ → Type 0

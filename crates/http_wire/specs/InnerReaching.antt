@@ -11,7 +11,8 @@ use Rattle.http_wire.specs.declared.body.Piece.{Piece}
 use Rattle.http_wire.specs.declared.body.Piece.TheVariants as pieces
 use Rattle.http_wire.specs.declared.stop.Stop.{Stop}
 use Rattle.http_wire.specs.declared.stop.Stop.TheVariants as stopped
-use Rattle.http_wire.specs.Bodies.{Skips, Stops, ends_before, is_cut_short, is_malformed, IsCutAt}
+use Rattle.http_wire.specs.Bodies.{Skips, Stops, ends_before, IsCutAt}
+use Rattle.http_wire.specs.BodyAnswers.{IsStepEnd}
 
 -- the answers of the public calls
 abbrev pub step_of : Stop → BodyStep
@@ -36,11 +37,9 @@ CanReach (states.Before piece) what next = ⊤
 CanReach states.Done what next = (what ≡ Ok 0) × (next ≡ states.Done)
 CanReach states.Refused what next = (what ≡ Err stopped.Malformed) × (next ≡ states.Refused)
 
--- no step more, where a reader stopped for what the bytes are
+-- no step is left, where a reader stopped for what the bytes are
 abbrev pub IsStopAt : Stop → BodyState → List ℕ → Type 0
-IsStopAt stopped.Ended state rest = Stops state rest [] is_cut_short
-IsStopAt stopped.Malformed state rest = Stops state rest [] is_malformed
-IsStopAt stop state rest = ⊤
+IsStopAt stop state rest = IsStepEnd (step_of stop) state rest
 
 -- the same where it may have reached the end
 abbrev pub IsReachEnd : Result ℕ Stop → BodyState → List ℕ → Type 0

@@ -15,6 +15,10 @@ trailer_limit = 16384
 abbrev pub field_limit : ℕ
 field_limit = 64
 
+-- more fields than the bytes of a head can hold, each with its span
+abbrev pub span_limit : ℕ
+span_limit = 8192
+
 -- a feed that has taken so many bytes takes no more
 abbrev pub feed_limit : ℕ
 feed_limit = 2 ^ 50

@@ -18,10 +18,6 @@ abbrev pub has_element : List ℕ → List ℕ → Bool
 has_element name value =
     list_any (λ element. is_name_then_ows name (skip_ows element)) (slice_split (λ b. b == 44) value)
 
--- a Connection field with the element `close`
-abbrev pub closes : List ℕ → List ℕ → Bool
-closes name value = is_same name (codes "connection") && has_element (codes "close") value
-
 -- HTTP/1.0, or a Connection field with the element `close` (RFC 9112, section 9.6)
 abbrev pub ends_connection : ℕ → List (List ℕ × List ℕ) → Bool
 ends_connection minor fields =

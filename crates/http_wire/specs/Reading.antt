@@ -8,6 +8,7 @@ use Rattle.http_wire.specs.declared.body.BodyStep.{BodyStep}
 use Rattle.http_wire.specs.declared.body.BodyStep.TheVariants as steps
 use Rattle.http_wire.specs.declared.body.BodyTaken.{BodyTaken}
 use Rattle.http_wire.specs.declared.body.BodyTaken.TheVariants as answers
+use Rattle.http_wire.specs.Answers.{malformed, too_large}
 use Rattle.http_wire.specs.Bodies.{Moves}
 use Rattle.http_wire.specs.Fields.{fields_of, Shows}
 use Rattle.http_wire.specs.BodyAnswers.{first_state}
@@ -47,7 +48,7 @@ abbrev pub HeadEnds : Heading → Ending → Type 0
 HeadEnds headings.End ending = ending ≡ is_complete
 HeadEnds headings.Cut ending = ending ≡ is_broken_off
 HeadEnds (headings.Bad number) ending =
-    ((number ≡ 18) × (ending ≡ is_no_message)) ⊎ ((number ≡ 19) × (ending ≡ has_large_head))
+    ((number ≡ malformed) × (ending ≡ is_no_message)) ⊎ ((number ≡ too_large) × (ending ≡ has_large_head))
 HeadEnds answer ending = ⊥
 
 -- where a body was not read whole

@@ -40,17 +40,18 @@ pub struct Feed {
 }
 
 impl Model for Feed {
-    ghost use Rattle.std.specs.Prelude.{◌≡◌, ◌+◌, ◌-◌, ◌^◌, ◌<◌, ◌≤◌, slice_range, length};
+    ghost use Rattle.std.specs.Prelude.{◌≡◌, ◌+◌, ◌*◌, ◌-◌, ◌<◌, ◌≤◌, slice_range, length};
     ghost use Rattle.http_wire.specs.Flow.{Flow};
+    ghost use Rattle.http_wire.specs.Limits.{feed_limit, head_limit, span_limit};
 
     ghost Value = { Flow };
 
     ghost view = { λ f.
         record { pending = slice_range f.buffer.items f.start f.end; taken = f.taken } };
 
-    ghost invariant = { λ f. (f.start ≤ f.end) × (f.end ≤ 16384) × (length f.buffer.items ≡ 16384)
-        × (length f.spans.items ≡ 8192) × (f.taken < 2 ^ 50 + 2 ^ 15)
-        × (f.end - f.start ≤ f.taken) };
+    ghost invariant = { λ f. (f.start ≤ f.end) × (f.end ≤ head_limit)
+        × (length f.buffer.items ≡ head_limit) × (length f.spans.items ≡ span_limit)
+        × (f.taken < feed_limit + 2 * head_limit) × (f.end - f.start ≤ f.taken) };
 }
 
 impl Feed {

@@ -7,7 +7,7 @@ ghost use Rattle.httparse.specs.Grammar.{RequestHead};
 ghost use Rattle.httparse.specs.Spans.{IsWithin, IsHeaderWithin, IsRequestAt, IsRequestWithin, header_bytes, span_bytes};
 ghost use Rattle.http_wire.specs.InnerHeads.{Judges, Parses};
 ghost use Rattle.http_wire.specs.Fields.{field_parts, Shows};
-ghost use Rattle.http_wire.specs.Limits.{head_limit};
+ghost use Rattle.http_wire.specs.Limits.{head_limit, span_limit};
 ghost use Rattle.http_wire.specs.Heads as heads;
 
 use crate::feed::HEAD_LIMIT;
@@ -29,7 +29,7 @@ pub(crate) fn judge(
     spans: &mut [HeaderSpan],
 ) -> Result<Option<(Head, usize)>, Heading>
     requires few { length bytes.now ≤ head_limit }
-    requires spans { length spans.old ≡ 8192 }
+    requires spans { length spans.old ≡ span_limit }
     ensures { Judges result bytes.now }
 {
     match parse(bytes, spans)? {
@@ -46,7 +46,7 @@ pub(crate) fn judge(
 // The same, before anything is copied.
 fn parse(bytes: &[u8], spans: &mut [HeaderSpan]) -> Result<Option<RequestSpans>, Heading>
     requires few { length bytes.now ≤ head_limit }
-    requires spans { length spans.old ≡ 8192 }
+    requires spans { length spans.old ≡ span_limit }
     ensures { Parses result spans.new bytes.now }
 {
     if !has_line(bytes) {

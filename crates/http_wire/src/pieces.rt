@@ -5,7 +5,7 @@ ghost use Rattle.reg_names.specs.Cause.{HasCause};
 ghost use Rattle.http_wire.specs.Bodies as bodies;
 ghost use Rattle.http_wire.specs.Bodies.{IsCutAt};
 ghost use Rattle.http_wire.specs.InnerPieces.{limit_of, JudgesPiece, IsAfter, TakesPiece};
-ghost use Rattle.http_wire.specs.Limits.{feed_limit, head_limit, size_line_limit};
+ghost use Rattle.http_wire.specs.Limits.{feed_limit, head_limit, size_line_limit, span_limit};
 ghost use Rattle.http_wire.specs.Flow.{stream, spent, IsBounded, OnStream, Counts};
 
 use crate::body::{BodyState, Piece};
@@ -41,7 +41,7 @@ pub(crate) fn judge_piece(
     spans: &mut [HeaderSpan],
 ) -> Result<Option<(BodyState, usize)>, Stop>
     requires few { length bytes.now ≤ limit_of piece }
-    requires spans { length spans.old ≡ 8192 }
+    requires spans { length spans.old ≡ span_limit }
     ensures { JudgesPiece result piece bytes.now }
 {
     match piece {
@@ -87,7 +87,7 @@ fn after_size(size: u64) -> BodyState
 
 fn judge_trailer(bytes: &[u8], spans: &mut [HeaderSpan]) -> Result<Option<(BodyState, usize)>, Stop>
     requires few { length bytes.now ≤ head_limit }
-    requires spans { length spans.old ≡ 8192 }
+    requires spans { length spans.old ≡ span_limit }
     ensures { JudgesPiece result Piece.Trailer bytes.now }
 {
     match parse_headers(bytes, spans) {

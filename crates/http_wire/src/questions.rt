@@ -5,6 +5,7 @@ ghost use Rattle.httparse.specs.Grammar as grammar;
 ghost use Rattle.http_wire.specs.Fields.{field_parts, fields_of};
 ghost use Rattle.http_wire.specs.Framing.{values_of};
 ghost use Rattle.http_wire.specs.Framing as framings;
+ghost use Rattle.http_wire.specs.InnerFields as inner;
 ghost use Rattle.http_wire.specs.Questions as spec;
 
 use crate::fields::{first, is_same};
@@ -20,13 +21,13 @@ pub fn ends_connection(head: &Head) -> bool
 }
 
 fn asks_to_close(fields: &[Field]) -> bool
-    ensures { result ≡ list_any (λ f. spec.closes f.name f.value) fields.now }
+    ensures { result ≡ list_any (λ f. inner.closes f.name f.value) fields.now }
 {
     fields.iter().any(|field| closes(field))
 }
 
 fn closes(field: &Field) -> bool
-    ensures { result ≡ spec.closes field.now.name field.now.value }
+    ensures { result ≡ inner.closes field.now.name field.now.value }
 {
     is_same(field.name.as_bytes(), b"connection") && has_element(field.value.as_slice(), b"close")
 }

@@ -2,7 +2,7 @@
 ghost use Rattle.std.specs.Prelude.{◌≡◌, ℕ, ◌^◌, ◌<◌, ◌≤◌, ◌⊎◌, List};
 ghost use Rattle.std.specs.Io.KnownBytes.{IsAtEnd};
 ghost use Rattle.reg_names.specs.Cause.{HasCause};
-ghost use Rattle.http_wire.specs.Answers.{IfHead, IfBad, TellsHead, IsEndOfInput, IsHeadOpen};
+ghost use Rattle.http_wire.specs.Answers.{IfHead, IfBad, TellsHead, IsEndOfInput, IsHeadOpen, malformed, too_large};
 ghost use Rattle.http_wire.specs.InnerHeads.{EndsAs};
 ghost use Rattle.http_wire.specs.Flow.{stream, spent, IsBounded, OnStream, Counts};
 ghost use Rattle.http_wire.specs.Limits.{feed_limit};
@@ -24,7 +24,7 @@ pub fn read_head<S: Source>(alloc: Global, feed: &mut Feed, source: &mut S) -> H
 
     // Also where the source does not tell its bytes.
     ensures minor { IfHead result (λ head. head.minor ≤ 1) }
-    ensures refusal { IfBad result (λ number. (number ≡ 18) ⊎ (number ≡ 19)) }
+    ensures refusal { IfBad result (λ number. (number ≡ malformed) ⊎ (number ≡ too_large)) }
 
     // The source is not read where what waits is a head, or is refused, and it has ended where the
     // answer says so.

@@ -1,18 +1,12 @@
 -- A file that is longer than what it should hold does not hold it, so it need not be read whole.
-use Rattle.std.proofs.Common.{◌≡◌, ℕ, ◌+◌, ◌*◌, Bool, true, false, cond, List, length, Option, Some, None, codes, refl, ap, ◌∙◌, arith, length-append}
+use Rattle.std.proofs.Common.{◌≡◌, ℕ, Bool, true, false, cond, List, length, Option, Some, None, refl, ap, ◌∙◌, arith}
 use Rattle.std.specs.Prelude.{nat_le, option_and_then}
 use Rattle.std.proofs.lemmas.Bool.Decides.{nat_tests}
-use Rattle.hex.specs.Hex.{encode_lower}
-use Rattle.hex.proofs.HexLemmas.{length-encode_with}
-use Rattle.reg_names.specs.Digests.{digest_text, digest_named, IsDigest}
-use Rattle.reg_names.proofs.DigestTexts.{digest_named-is}
+use Rattle.reg_names.specs.Digests.{digest_named}
+use Rattle.reg_names.specs.Limits.{digest_text_length}
+use Rattle.reg_names.proofs.DigestTexts.{digest_named-is, length-digest_text}
 use Rattle.manifest_doc.specs.Stored.{manifest_limit, stored_in}
-use Rattle.link_reading.specs.InnerAnswers.{digest_text_length, short}
-
--- the text of a digest has so many bytes
-length-digest_text : (digest : List ℕ) → IsDigest digest → length (digest_text digest) ≡ digest_text_length
-length-digest_text digest h =
-    rw h.is (length-append (codes "sha256:") (encode_lower h.raw) ∙ ap (λ n. 7 + n) (length-encode_with _ h.raw ∙ ap (λ n. 2 * n) h.long))
+use Rattle.link_reading.specs.InnerAnswers.{short}
 
 named_is_short : (bytes : List ℕ) (named : Option (List ℕ)) → digest_named bytes ≡ named → nat_le (length bytes) digest_text_length ≡ false → None ≡ named
 named_is_short bytes None e long = refl

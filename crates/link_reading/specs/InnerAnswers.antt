@@ -3,10 +3,6 @@ use Rattle.std.specs.Prelude.{◌≡◌, ℕ, nat_le, if◌then◌else◌, List,
 use Rattle.manifest_doc.specs.declared.document.Doc.{Doc}
 use Rattle.manifest_doc.specs.Stored.{stored_in}
 
--- the length of a digest's text, in bytes
-abbrev pub digest_text_length : ℕ
-digest_text_length = 71
-
 -- a file that is there and has at most so many bytes
 abbrev pub short : ℕ → Option (List ℕ) → Option (List ℕ)
 short most file = option_and_then (λ bytes. if nat_le (length bytes) most then Some bytes else None) file

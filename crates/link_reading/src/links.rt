@@ -8,11 +8,8 @@ ghost use Rattle.link_reading.specs.Meaning.{links_to};
 ghost use Rattle.link_reading.specs.InnerAnswers.{short};
 
 use depot_api::{Depot, Path, Small};
-use reg_names::{Bytes, Digest, Refused};
+use reg_names::{Bytes, DIGEST_TEXT_LENGTH, Digest, Refused};
 use std::alloc::Global;
-
-/// The length of a digest's text, in bytes.
-const DIGEST_TEXT_LENGTH: u64 = 71;
 
 /// Whether a link file holds the digest's text.
 pub fn is_linked<D: Depot>(
@@ -41,7 +38,7 @@ pub fn named_digest<D: Depot>(
         named ≡ option_and_then digest_named (files at.now)) }
     ensures reads { OnlyReads D.held D.faults depot.old depot.new (HasFailed result) }
 {
-    match short_file(alloc, depot, at, DIGEST_TEXT_LENGTH)? {
+    match short_file(alloc, depot, at, DIGEST_TEXT_LENGTH as u64)? {
         Some(bytes) => Ok(Digest::read_bytes(bytes.as_slice())),
         None => Ok(None),
     }

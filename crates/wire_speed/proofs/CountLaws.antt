@@ -25,7 +25,8 @@ use Rattle.wire_speed.specs.declared.Totals.{Totals}
 use Rattle.wire_speed.specs.declared.Next.TheVariants as nexts
 use Rattle.wire_speed.specs.declared.Way.{Way}
 use Rattle.wire_speed.specs.declared.Way.TheVariants as ways
-use Rattle.wire_speed.specs.Counting.{body_bytes, limit_of, limits_of, IsCounted, HasLength, IsNextRequest}
+use Rattle.wire_speed.specs.Counting.{body_bytes, limit_of, limits_of, IsCounted}
+use Rattle.wire_speed.specs.InnerCounting.{HasLength, IsNextRequest}
 
 -- so many messages were read, with so many bytes
 abbrev pub Counted : Way → ℕ → ℕ → List ℕ → List ℕ → Type 0

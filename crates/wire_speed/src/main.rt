@@ -7,10 +7,11 @@
 
 ghost use Rattle.std.specs.Prelude.{◌≡◌, ◌+◌, ◌≤◌, IfSome};
 ghost use Rattle.http_wire.specs.Flow.{stream, OnStream};
-ghost use Rattle.wire_speed.specs.Counting.{IsCounted, HasLength, IsNextRequest};
+ghost use Rattle.wire_speed.specs.Counting.{IsCounted};
+ghost use Rattle.wire_speed.specs.InnerCounting.{HasLength, IsNextRequest};
 
 use depot_api::memory::{MemSource, MemStage};
-use depot_api::{Bytes, Path, Source};
+use depot_api::{Bytes, FILE_LIMIT, Path, Source};
 use http_wire::{
     BodyReader, BodyStep, BodyTaken, Feed, Framing, Heading, ends_connection, framing, read_body,
     read_head, take_body,
@@ -22,9 +23,6 @@ use std::process::ExitCode;
 
 // The bytes that are read at once.
 const BUFFER: usize = 16_384;
-
-// The most bytes of one body that is staged.
-const MOST: u64 = 1 << 62;
 
 /// How many requests there are, and how many bytes their bodies have.
 #[derive(Clone, Copy, Debug)]
@@ -230,7 +228,7 @@ fn body_staged<S: Source>(
         feed,
         source,
         &mut BodyReader::new(framing),
-        MOST,
+        FILE_LIMIT,
         &mut stage,
     ) {
         BodyTaken::Whole(length) => Some(length),

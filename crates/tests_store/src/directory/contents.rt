@@ -12,7 +12,7 @@ type Told = Result<Option<&'static str>, Refused>;
 const FAULT: Told = Err(Refused::Failed);
 
 /// What lies at a path, and the page of the files that begin with it.
-const TOLD: [(&str, Told, &str); 23] = [
+const TOLD: [(&str, Told, &str); 25] = [
     ("b", Ok(Some("x")), "b"),
     ("a/b.c", Ok(Some("hello")), "a/b.c"),
     ("a/b/c", Ok(Some("in c")), "a/b/c"),
@@ -31,11 +31,13 @@ const TOLD: [(&str, Told, &str); 23] = [
     ("to_folder/b/c", FAULT, FAILS),
     ("out", Ok(None), FAILS),
     ("out/link", FAULT, FAILS),
+    ("to_outside", FAULT, FAILS),
     ("to_outside/secret", FAULT, FAILS),
     ("torn", Ok(None), FAILS),
     ("torn/link", FAULT, FAILS),
     ("torn/link/x", FAULT, FAILS),
     ("loop", FAULT, FAILS),
+    ("loop/x", FAULT, FAILS),
 ];
 
 #[test]

@@ -1,7 +1,7 @@
 use Rattle.std.proofs.Common.{subst}
 use Rattle.http_wire.specs.Flow.{stream, OnStream}
 use Rattle.wire_speed.specs.declared.Next.{Next}
-use Rattle.wire_speed.specs.Counting.{IsNextRequest}
+use Rattle.wire_speed.specs.InnerCounting.{IsNextRequest}
 use Rattle.wire_speed.proofs.CountLaws.{counted_more, counted_last, counted_end}
 use Rattle.wire_speed.proofs.requests.Goals as goal
 
