@@ -1,6 +1,5 @@
 -- The registry as one thread runs it: what an ask is answered.
-use Rattle.std.specs.Prelude.{◌≡◌, ℕ, Bool, true, false, if◌then◌else◌, IsTrue, List, [], length, Option, Some, None, option_and_then, ⊤}
-use Rattle.reg_names.specs.declared.kind.Kind.{Kind}
+use Rattle.std.specs.Prelude.{◌≡◌, ℕ, Bool, true, false, IsTrue, List, [], length, Option, Some, None, ⊤}
 use Rattle.reg_names.specs.declared.reference.Reference.{Reference}
 use Rattle.reg_names.specs.declared.reference.Reference.TheVariants as references
 use Rattle.reg_digest.specs.Hashing.{hashes_to}

@@ -1,5 +1,5 @@
 -- What is answered with a blob that is read afterwards.
-use Rattle.std.specs.Prelude.{◌≡◌, ◌↔◌, ℕ, List, [], length, Option, Some, None, IsSome, IsTrue, ⊥, ⊤}
+use Rattle.std.specs.Prelude.{◌≡◌, ◌↔◌, ℕ, List, [], length, Option, Some, None, IsSome, IsTrue, ⊤}
 use Rattle.depot_api.specs.Blobs.{Rest}
 use Rattle.reg_entries.specs.declared.reply.Reply.{Reply}
 use Rattle.reg_entries.specs.declared.reply.Reply.TheVariants as replies
