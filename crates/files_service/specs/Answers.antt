@@ -1,5 +1,5 @@
 -- What the service answers.
-use Rattle.std.specs.Prelude.{◌≡◌, List, ℕ, Result, Ok, Err, IfOk, IfSome, IsErrOf, IsTrue, Option, ⊥, ⊤}
+use Rattle.std.specs.Prelude.{◌≡◌, ℕ, Result, Ok, Err, IfOk, IfSome, IsErrOf, IsTrue, Option, ⊤}
 use Rattle.depot_api.specs.Blobs.{Rest}
 use Rattle.depot_api.specs.Holdings.{Holding}
 use Rattle.reg_entries.specs.declared.ask.Ask.{Ask}

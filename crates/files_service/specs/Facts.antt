@@ -15,12 +15,12 @@ upload_at files name id =
 -- what an answer from link files depends on: what the files mean, and the data files
 abbrev pub facts_of : Holding → Facts
 facts_of held =
-    record
-    { phase = by_files
-    ; state = Means held.files
-    ; condemned = λ digest. None
-    ; uploads = upload_at held.files
-    ; busy = λ name id. held.lent (upload_data_path name id)
-    ; manifests = λ name digest. data_at held.files digest
-    ; blobs = data_at held.files
+    record {
+      phase = by_files;
+      state = Means held.files;
+      condemned = λ digest. None;
+      uploads = upload_at held.files;
+      busy = λ name id. held.lent (upload_data_path name id);
+      manifests = λ name digest. data_at held.files digest;
+      blobs = data_at held.files;
     }

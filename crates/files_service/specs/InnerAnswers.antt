@@ -1,6 +1,5 @@
 -- The proof's own: no public clause cites what stands here.
-use Rattle.std.specs.Prelude.{◌≡◌, ℕ, List, length, Option, Some, None}
-use Rattle.manifest_doc.specs.declared.document.Doc.{Doc}
+use Rattle.std.specs.Prelude.{◌≡◌, ℕ, List, length, Option, Some, None, ⊤}
 use Rattle.reg_names.specs.declared.reference.Reference.{Reference}
 use Rattle.depot_api.specs.Blobs.{Rest}
 use Rattle.depot_api.specs.Files.{Files}
@@ -15,11 +14,12 @@ FindsBlob rest name digest files (Some blob) =
     ((Means files).links name digest ≡ Some (length (rest blob).bytes)) × (data_at files digest ≡ Some (rest blob).bytes)
 FindsBlob rest name digest files None = (Means files).links name digest ≡ None
 
--- the manifest that a reference stands for, or that the repository has none there
+-- the repository has no manifest under a digest, where there is one
 abbrev pub LacksManifest : Files → List ℕ → Option (List ℕ) → Type 0
-LacksManifest files name None = Unit {0}
+LacksManifest files name None = ⊤
 LacksManifest files name (Some digest) = (Means files).manifests name digest ≡ None
 
+-- the manifest that a reference stands for, or that the repository has none there
 abbrev pub FindsReferred : Files → List ℕ → Option Reference → Option StoredManifest → Type 0
 FindsReferred files name at (Some m) =
     (referred (Means files) name at ≡ Some m.digest) × HasManifest files name m.digest m.doc m.bytes

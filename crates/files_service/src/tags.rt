@@ -38,7 +38,7 @@ pub fn list_tags<D: Depot>(
 
 // An equal name.
 fn copied(alloc: Global, name: &Name) -> Result<Name, Refused>
-    ensures { IfOk result (λ copy. copy ≡ name.now) }
+    ensures value { IfOk result (λ copy. copy ≡ name.now) }
     ensures memory { ¬ IsErrOf result refusals.Failed }
 {
     Ok(name.copy(alloc)?)
