@@ -1,8 +1,7 @@
 -- What one hold of a world may do.
-use Rattle.std.specs.Prelude.{◌≡◌, List, ℕ, Bool, Result, Ok, Err, IsTrue, Option}
+use Rattle.std.specs.Prelude.{◌≡◌, Result, Ok, Err, IsTrue, Option}
 use Rattle.reg_names.specs.Cause.{HasCause}
 use Rattle.depot_api.specs.Blobs.{Rest}
-use Rattle.depot_api.specs.Holdings.{Holding}
 use Rattle.reg_entries.specs.declared.ask.Ask.{Ask}
 use Rattle.reg_entries.specs.declared.reply.Reply.{Reply}
 use Rattle.reg_entries.specs.declared.trouble.Trouble.{Trouble}

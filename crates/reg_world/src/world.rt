@@ -3,6 +3,8 @@ ghost use Rattle.std.specs.Prelude.{◌≡◌, IfOk, option_copied};
 ghost use Rattle.reg_entries.specs.declared.ask.Ask.TheVariants as asks;
 ghost use Rattle.reg_model.specs.Blobs.{IsPaired};
 ghost use Rattle.files_service.specs.Answers.{IsFresh};
+ghost use Rattle.reg_world.specs.Worlds.{shown, keeper_of};
+ghost use Rattle.reg_world.specs.Moves.{Seen, Moves, SeesBlob, seen_of, answers};
 
 use depot_api::Depot;
 use reg_entries::{Reply, Trouble};
@@ -25,9 +27,6 @@ pub fn begin<D: Depot, K>(depot: D, keeper: K) -> World<D, K>
 }
 
 impl<D: Depot, K> World<D, K> {
-    ghost use Rattle.reg_world.specs.Worlds.{shown, keeper_of};
-    ghost use Rattle.reg_world.specs.Moves.{Seen, Moves, SeesBlob, seen_of, answers};
-
     /// The devices, as the last call left them. Takes no memory, and cannot fail.
     pub fn stop(self) -> (D, K)
         ensures held { D.held result.0 ≡ (shown D.held D.faults self).held }
