@@ -20,7 +20,8 @@ pub struct World<D, K> {
 
 /// Joins the devices of a registry. Takes no memory, and cannot fail.
 pub fn begin<D: Depot, K>(depot: D, keeper: K) -> World<D, K>
-    ensures shown { shown D.held D.faults result ≡ record { held = D.held depot; faults = D.faults depot } }
+    ensures shown { shown D.held D.faults result
+        ≡ record { held = D.held depot; faults = D.faults depot } }
     ensures keeper { keeper_of result ≡ keeper }
 {
     World { depot, keeper }
