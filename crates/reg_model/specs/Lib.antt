@@ -1,0 +1,4 @@
+pub mod Facts
+pub mod Answers
+pub mod Fits
+pub mod Blobs
