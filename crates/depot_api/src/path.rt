@@ -220,7 +220,8 @@ impl PartialOrd for Path {
 
     ghost partial_cmp = { as_partial_cmp (slice_cmp (slice_cmp nat_cmp)) };
 
-    ghost laws = { partial_order_from_own_ties (Prim.search (comparing, rules)) (lists_ties (slice_cmp nat_cmp) texts_ties) };
+    ghost laws = { partial_order_from_own_ties (Prim.search (comparing, rules))
+        (lists_ties (slice_cmp nat_cmp) texts_ties) };
 
     fn partial_cmp(&self, other: &Path) -> Option<Ordering> {
         Some(self.cmp(other))

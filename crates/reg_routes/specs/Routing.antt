@@ -1,12 +1,11 @@
 -- What a request asks for, by its route, its method and its query (OCI Distribution Specification 1.1, "Endpoints").
 use Rattle.std.specs.Prelude.{◌≡◌, ℕ, Bool, ◌==◌, if◌then◌else◌, List, [], ◌∷◌, codes}
-use Rattle.std.specs.Prelude.{Option, Some, None, option_and_then, Result, Ok, Err, MatchOption, ⊤}
+use Rattle.std.specs.Prelude.{Option, Some, None, option_and_then, Result, Ok, Err, ⊤}
 use Rattle.std.specs.List.{list_any, find}
+use Rattle.std.specs.Str.{is_utf8}
 use Rattle.form_urlencoded.specs.Form.{raw_pairs}
-use Rattle.http_wire.specs.declared.head.Head.{Head}
-use Rattle.http_wire.specs.Fields.{fields_of}
 use Rattle.http_wire.specs.Framing.{values_of}
-use Rattle.http_wire.specs.Questions.{IsTextOf, start_of}
+use Rattle.http_wire.specs.Questions.{start_of}
 use Rattle.reg_names.specs.Names.{is_name}
 use Rattle.reg_names.specs.Digests.{digest_named}
 use Rattle.reg_names.specs.References.{reference_named}
@@ -149,28 +148,29 @@ asked method target typed start = found_ask method (spot_in_target target) (pair
 
 -- ---- heads
 
--- the values of the Content-Type fields
-abbrev pub types_of : Head → List (List ℕ)
-types_of head = values_of (codes "content-type") (fields_of head)
+-- the text that bytes are, and none for bytes that are no UTF-8
+abbrev pub text_or_none : List ℕ → List ℕ
+text_or_none value = if is_utf8 value then value else []
+
+-- the first of these values, as a text
+abbrev pub first_text : List (List ℕ) → Option (List ℕ)
+first_text [] = None
+first_text (value ∷ rest) = Some (text_or_none value)
+
+-- the first Content-Type
+abbrev pub typed_in : Pairs → Option (List ℕ)
+typed_in fields = first_text (values_of (codes "content-type") fields)
 
 -- the start of the first Content-Range
-abbrev pub start_in : Head → Option ℕ
-start_in head = start_of (values_of (codes "content-range") (fields_of head))
+abbrev pub start_in : Pairs → Option ℕ
+start_in fields = start_of (values_of (codes "content-range") fields)
 
--- the text is that of the first Content-Type
-abbrev pub IsTyped : Head → Option (List ℕ) → Type 0
-IsTyped head typed =
-    MatchOption typed (types_of head ≡ [])
-    (λ t. (v : List ℕ) × (rest : List (List ℕ)) × (types_of head ≡ v ∷ rest) × IsTextOf v t)
+-- what a request with this method, this target and these fields asks for
+abbrev pub ask_of : List ℕ → List ℕ → Pairs → Answer
+ask_of method target fields = asked method target (typed_in fields) (start_in fields)
 
--- the answer of a call
-abbrev pub Tells : Answer → Result Ask Unrouted → Type 0
-Tells answer (Ok ask) = answer ≡ Ok ask
-Tells answer (Err (unrouted.Refused reply)) = answer ≡ Err reply
-Tells answer (Err unrouted.NoMemory) = ⊤
-
--- what the request with that head asks for, unless memory was wanting
-abbrev pub Routes : Head → Result Ask Unrouted → Type 0
-Routes head result =
-    (typed : Option (List ℕ)) × IsTyped head typed
-    × Tells (asked head.method head.target typed (start_in head)) result
+-- the answer of a call, unless memory was wanting
+abbrev pub IsRouted : Answer → Result Ask Unrouted → Type 0
+IsRouted answer (Ok ask) = answer ≡ Ok ask
+IsRouted answer (Err (unrouted.Refused reply)) = answer ≡ Err reply
+IsRouted answer (Err unrouted.NoMemory) = ⊤

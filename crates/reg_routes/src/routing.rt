@@ -1,6 +1,7 @@
 //! Routes of requests.
 ghost use Rattle.std.specs.Prelude.{◌≡◌, Err, IfOk, option_copied};
 ghost use Rattle.form_urlencoded.specs.Form.{raw_pairs};
+ghost use Rattle.http_wire.specs.Fields.{fields_of};
 ghost use Rattle.reg_routes.specs.Routing as spec;
 ghost use Rattle.reg_routes.specs.Targets.{shown};
 
@@ -27,7 +28,7 @@ pub enum Unrouted {
 /// Errors: the first of these refusals that applies: no route, no method of the route, no name, no
 /// digest. Or memory was wanting.
 pub fn route(alloc: Global, head: &Head) -> Result<Ask, Unrouted>
-    ensures { spec.Routes head.now result }
+    ensures { spec.IsRouted (spec.ask_of head.now.method head.now.target (fields_of head.now)) result }
 {
     let typed = content_type(head);
     match asked(
