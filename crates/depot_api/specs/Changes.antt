@@ -67,7 +67,8 @@ Shelves staged before now = now ≡ with_shelved before staged
 -- staged bytes were placed; where that failed they were placed or put back, and nothing changed for want of memory
 abbrev pub Places : {A S : Type 0} → Staged → List (List ℕ) → Result A (Unplaced S) → Holding → Holding → Type 0
 Places staged to (Ok size) before now = now ≡ with_placed before staged to
-Places staged to (Err unplaced.Failed) before now = (now ≡ with_shelved before staged) ⊎ (now ≡ with_placed before staged to)
+Places staged to (Err unplaced.Failed) before now =
+    (now ≡ with_shelved before staged) ⊎ (now ≡ with_placed before staged to)
 Places staged to (Err (unplaced.NoMemory stage)) before now = now ≡ before
 
 -- this holds of the stage that came back for want of memory
@@ -103,6 +104,7 @@ abbrev pub HidesLoans : Holding → Type 0
 HidesLoans held = IsTrue held.tells → (q : List (List ℕ)) → IsTrue (held.lent q) → held.files q ≡ None
 
 -- a call that changes: what was made of what is held, and a fault is told only where the depot's count rose
-pub record Changes {D : Type 0} (held : D → Holding) (faults : D → ℕ) (old new : D) (Made : Holding → Holding → Type 0) (told : Type 0) : Type 0 where
+pub record Changes {D : Type 0} (held : D → Holding) (faults : D → ℕ) (old new : D)
+    (Made : Holding → Holding → Type 0) (told : Type 0) : Type 0 where
   pub made : Made (held old) (held new)
   pub cause : HasCause (faults old) (faults new) told

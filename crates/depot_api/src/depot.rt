@@ -119,7 +119,8 @@ pub trait Depot {
     fn stage(&mut self, alloc: Global, at: &Path) -> Result<Option<Self::S>, Refused>
         ensures changes { Changes held faults self.old self.new (Lends at.now result)
             (HasFailed result) }
-        ensures stage { IfFound result (λ stage. IsLentOf (held self.old) at.now (Self.S.held stage)) }
+        ensures stage { IfFound result
+            (λ stage. IsLentOf (held self.old) at.now (Self.S.held stage)) }
         ensures fresh { IfFound result (λ stage. Self.S.faults stage ≡ 0) };
 
     /// Puts the staged bytes back at the path that they were lent from, where that is still lent, and else changes no

@@ -33,7 +33,8 @@ impl Loans {
 
     /// Lends a path.
     pub fn begin(&mut self, alloc: Global, at: &Path) -> Result<(), NoMemory>
-        ensures lent { IfOk result (λ _. untold self.new ≡ with_loan (untold self.old) at.now true) }
+        ensures lent { IfOk result
+            (λ _. untold self.new ≡ with_loan (untold self.old) at.now true) }
         ensures without { OnErr result (untold self.new ≡ untold self.old) }
     {
         let _ = self.paths.insert(at.copy(alloc)?)?;

@@ -28,7 +28,8 @@ pub enum Unrouted {
 /// Errors: the first of these refusals that applies: no route, no method of the route, no name, no
 /// digest. Or memory was wanting.
 pub fn route(alloc: Global, head: &Head) -> Result<Ask, Unrouted>
-    ensures { spec.IsRouted (spec.ask_of head.now.method head.now.target (fields_of head.now)) result }
+    ensures { spec.IsRouted
+        (spec.ask_of head.now.method head.now.target (fields_of head.now)) result }
 {
     let typed = content_type(head);
     match asked(

@@ -91,7 +91,8 @@ impl Slots {
     pub fn lend_instead(&mut self, alloc: Global, from: &Path, to: &Path) -> Result<Path, NoMemory>
         ensures path { IfOk result (λ path. path ≡ to.now) }
         ensures lent { IfOk result (λ _.
-            slots_held self.new ≡ with_lent (with_loan (slots_held self.old) from.now false) to.now) }
+            slots_held self.new
+            ≡ with_lent (with_loan (slots_held self.old) from.now false) to.now) }
         ensures without { OnErr result (slots_held self.new ≡ slots_held self.old) }
     {
         let path = to.copy(alloc)?;
@@ -105,7 +106,8 @@ impl Slots {
     /// Puts lent bytes back at their path, where it is still lent. It takes no memory.
     pub fn shelve(&mut self, at: Path, bytes: Vec<u8>)
         requires { vec_len bytes ≤ file_limit }
-        ensures { slots_held self.new ≡ with_shelved (slots_held self.old) (staged_at at bytes.items) }
+        ensures { slots_held self.new
+            ≡ with_shelved (slots_held self.old) (staged_at at bytes.items) }
     {
         if self.is_lent(&at) {
             let Ok(_) = self.slots.insert(at, Slot::Whole(FileBytes::of_vec(bytes))) else {
@@ -141,7 +143,8 @@ impl Slots {
         most: usize,
     ) -> Result<Vec<Path>, NoMemory>
         ensures value { IfOk result (λ page.
-            IsPage (slots_held self.now).files under.now (option_copied after.entry) most page.items) }
+            IsPage (slots_held self.now).files under.now (option_copied after.entry) most
+            page.items) }
         ensures most { IfOk result (λ page. vec_len page ≤ most) }
         ensures order { IfOk result (λ page.
             ArePathsAbove under.now (option_copied after.entry) page.items) }
@@ -160,7 +163,8 @@ fn first_paths(
     most: usize,
 ) -> Result<Vec<Path>, NoMemory>
     ensures { IfOk result (λ paths.
-        paths.items ≡ take most (take_while (begins_with under.now) (keys_of (wholes range.entry)))) }
+        paths.items
+        ≡ take most (take_while (begins_with under.now) (keys_of (wholes range.entry)))) }
 {
     let mut paths = Vec::new(alloc);
     for (path, slot) in range {
