@@ -23,7 +23,7 @@ use std::marker::Model;
 pub(crate) const HEAD_LIMIT: usize = 16_384;
 
 // More than the fields that so many bytes can hold.
-const SPANS: usize = 8_192;
+const SPAN_LIMIT: usize = 8_192;
 
 // A feed that has taken so many bytes takes no more.
 const FEED_LIMIT: u64 = 1_125_899_906_842_624;
@@ -63,7 +63,7 @@ impl Feed {
     {
         Ok(Feed {
             buffer: empty_buffer(alloc, HEAD_LIMIT)?,
-            spans: empty_spans(alloc, SPANS)?,
+            spans: empty_spans(alloc, SPAN_LIMIT)?,
             start: 0,
             end: 0,
             taken: 0,
