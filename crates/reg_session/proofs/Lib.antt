@@ -1,0 +1,9 @@
+pub mod BlobLaws
+pub mod BodyLaws
+pub mod ConcludeLaws
+pub mod DecidingLaws
+pub mod ExchangeLaws
+pub mod MessageLaws
+pub mod PieceLaws
+pub mod RespondLaws
+pub mod SessionLaws

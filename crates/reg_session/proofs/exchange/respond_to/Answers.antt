@@ -1,0 +1,50 @@
+use Rattle.std.proofs.Common.{[], Some, ap, refl, sym, subst, ◌∙◌}
+use Rattle.std.specs.Io.KnownBytes.{Appends}
+use Rattle.reg_session.specs.Requests.{parts_in}
+use Rattle.reg_session.proofs.BlobLaws.{took_front, took_all}
+use Rattle.reg_session.proofs.ExchangeLaws.{later_than}
+use Rattle.reg_session.proofs.RespondLaws.{ask_goes, ask_limits, ask_replies, line_is_interim, unsaid_behind, whole_behind, cut_behind, broken_causes}
+use Rattle.reg_session.proofs.exchange.respond_to.Goals as goal
+
+pub returns-then-is_err-clause-responds : goal.returns-then-is_err-clause-responds
+returns-then-is_err-clause-responds g c =
+    let p = parts_in c.args.head.now in
+    let failed = sym c.is_err.ensures.value ∙ c.if-is_err.true in
+    record {
+      holds = [];
+      chain = λ next h. h;
+      behind = unsaid_behind p _ _ _ _ (c.send_continue.ensures.waits failed) (ask_goes p c.args.ask.now c.requires.asked c.requires.told)
+          (took_front _ _ _ c.send_continue.result failed c.send_continue.ensures.wrote);
+    }
+
+pub returns-in-Whole-clause-responds : goal.returns-in-Whole-clause-responds
+returns-in-Whole-clause-responds g c =
+    let p = parts_in c.args.head.now in
+    let goes = ask_goes p c.args.ask.now c.requires.asked c.requires.told in
+    let said = subst (Appends (g.O.Sink.taken c.args.sink.now) (g.O.Sink.taken c.send_continue.new.sink)) (line_is_interim p goes)
+    (took_all _ _ _ c.send_continue.result (sym c.is_err.ensures.value ∙ c.if-is_err.false) c.send_continue.ensures.wrote) in
+    let all = c.conclude.ensures.concludes in
+    let decides = c.decide-reply.ensures.decides (record { reply = c.decide-reply.result.0; content = all.bytes }) (record { reply = refl; content = all.of_blob }) in
+    record {
+      holds = decides.holds;
+      chain = decides.chain;
+      behind = whole_behind p _ _ _ (g.O.Sink.taken c.send_continue.new.sink) (ap Some c.limit_of.ensures ∙ ask_limits p c.args.ask.now c.requires.asked) said decides.holds c.decide-reply.result.0 all.bytes c.conclude.result
+          (ask_replies p c.args.ask.now decides.holds _ c.requires.asked decides.replies_so) (λ _. goes) c.in-Whole.ensures.body all.so;
+    }
+
+pub returns-in_default-clause-responds : goal.returns-in_default-clause-responds
+returns-in_default-clause-responds g c =
+    let p = parts_in c.args.head.now in
+    let goes = ask_goes p c.args.ask.now c.requires.asked c.requires.told in
+    let said = subst (Appends (g.O.Sink.taken c.args.sink.now) (g.O.Sink.taken c.send_continue.new.sink)) (line_is_interim p goes)
+    (took_all _ _ _ c.send_continue.result (sym c.is_err.ensures.value ∙ c.if-is_err.false) c.send_continue.ensures.wrote) in
+    record {
+      holds = [];
+      chain = λ next h. h;
+      behind = cut_behind p _ _ _ (g.O.Sink.taken c.send_continue.new.sink) (ap Some c.limit_of.ensures ∙ ask_limits p c.args.ask.now c.requires.asked) said c.drop_body.result c.break_off.result
+          c.drop_body.ensures.body c.break_off.ensures.ends c.break_off.ensures.wrote c.drop_body.ensures.at_end;
+    }
+
+pub returns-in_default-clause-causes : goal.returns-in_default-clause-causes
+returns-in_default-clause-causes g c = broken_causes _ _ _ _ _ _ c.drop_body.result c.break_off.result c.break_off.ensures.ends c.drop_body.ensures.cause c.drop_body.ensures.long
+    (later_than _ _ _ _ c.send_continue.ensures.cause.later c.break_off.ensures.cause)

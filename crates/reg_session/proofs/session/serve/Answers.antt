@@ -1,0 +1,82 @@
+use Rattle.std.proofs.Common.{List, ℕ, [], ◌∷◌, ◌++◌, Option, refl, subst, arith}
+use Rattle.http_wire.specs.Flow.{stream}
+use Rattle.http_wire.proofs.MovingLaws.{Counts-trans}
+use Rattle.reg_session.specs.Sessions.{here, Serves}
+use Rattle.reg_session.specs.Works.{idle}
+use Rattle.reg_session.proofs.SessionLaws.{serves_none, serves_more, idle_wants, from_empty, session_causes}
+use Rattle.reg_session.proofs.session.serve.Goals as goal
+
+pub returns-in_default-clause-session : goal.returns-in_default-clause-session
+returns-in_default-clause-session g c =
+    let at = g.H.Turns.at c.args.holder.now in
+    let left = g.S.Source.left c.args.source.now in
+    let sink = g.O.Sink.taken c.args.sink.now in
+    record {
+      turns = [];
+      work = idle;
+      mid = here at left left sink;
+      rest = left;
+      serves = serves_none g.H.Turns.between at left left sink;
+      ends = idle_wants g.H.Turns.between at left left sink (g.O.Sink.taken c.no_memory.new.sink) c.no_memory.result c.no_memory.ensures.ends c.no_memory.ensures.wrote;
+    }
+
+pub requests-init : goal.requests-init
+requests-init g c = record {
+  outside = c.requires;
+  same = λ origin is. is;
+  so_far = ([], serves_none g.H.Turns.between (g.H.Turns.at c.args.holder.now) (stream c.in-Ok.feed (g.S.Source.left c.args.source.now)) (g.S.Source.left c.args.source.now) (g.O.Sink.taken c.args.sink.now));
+  source_later = omega arith;
+  sink_later = omega arith;
+  counts = record { as_given = λ _. refl; grows = λ _. omega arith };
+}
+
+pub requests-preserved : goal.requests-preserved
+requests-preserved g c =
+    let S = g.S.Source.left in
+    let one = c.in-Next.ensures.exchanges in
+    let so_far = c.requests.invariant.so_far in
+    record {
+      outside = c.exchange.ensures.outside;
+      same = λ origin is. c.exchange.ensures.same origin (c.requests.invariant.same origin is);
+      so_far = (
+        so_far.0 ++ one.0 ∷ [],
+        serves_more g.H.Turns.between
+            (here (g.H.Turns.at c.args.holder.now) (stream c.in-Ok.feed (S c.args.source.now)) (S c.args.source.now) (g.O.Sink.taken c.args.sink.now))
+            (here (g.H.Turns.at c.requests.holder) (stream c.requests.feed (S c.requests.source)) (S c.requests.source) (g.O.Sink.taken c.requests.sink))
+            (here (g.H.Turns.at c.exchange.new.holder) (stream c.exchange.new.feed (S c.exchange.new.source)) (S c.exchange.new.source) (g.O.Sink.taken c.exchange.new.sink)) so_far.0 one.0 so_far.1 one.1,
+      );
+      source_later = omega (arith, c.requests.invariant.source_later, c.exchange.ensures.causes.source.later);
+      sink_later = omega (arith, c.requests.invariant.sink_later, c.exchange.ensures.causes.sink.later);
+      counts = Counts-trans c.in-Ok.feed (g.S.Source.given c.args.source.now) c.requests.feed (g.S.Source.given c.requests.source) c.exchange.new.feed (g.S.Source.given c.exchange.new.source) c.requests.invariant.counts c.exchange.ensures.counts;
+    }
+
+pub returns-in-Ended-clause-session : goal.returns-in-Ended-clause-session
+returns-in-Ended-clause-session g c =
+    let S = g.S.Source.left in
+    let at = g.H.Turns.at c.args.holder.now in
+    let left = S c.args.source.now in
+    let sink = g.O.Sink.taken c.args.sink.now in
+    let so_far = c.requests.invariant.so_far in
+    let end = c.in-Ended.ensures.exchanges in
+    let mid = here (g.H.Turns.at c.requests.holder) (stream c.requests.feed (S c.requests.source)) (S c.requests.source) (g.O.Sink.taken c.requests.sink) in
+    record {
+      turns = so_far.0;
+      work = end.0;
+      mid = mid;
+      rest = stream c.exchange.new.feed (S c.exchange.new.source);
+      serves = subst (λ (a : Option (List ℕ)). Serves g.H.Turns.between (here at a left sink) mid so_far.0) (from_empty c.in-Ok.feed.pending left c.in-Ok.ensures.pending) so_far.1;
+      ends = end.1;
+    }
+
+pub returns-in-Ended-clause-same : goal.returns-in-Ended-clause-same
+returns-in-Ended-clause-same g c = λ origin is. c.exchange.ensures.same origin (c.requests.invariant.same origin is)
+
+pub returns-in-Ended-clause-causes : goal.returns-in-Ended-clause-causes
+returns-in-Ended-clause-causes g c =
+    let given = g.S.Source.given in
+    let before = c.requests.invariant in
+    let counts = Counts-trans c.in-Ok.feed (given c.args.source.now) c.requests.feed (given c.requests.source) c.exchange.new.feed (given c.exchange.new.source) before.counts c.exchange.ensures.counts in
+    session_causes (g.S.Source.faults c.args.source.now) (g.S.Source.faults c.requests.source) (g.S.Source.faults c.exchange.new.source)
+    (g.O.Sink.faults c.args.sink.now) (g.O.Sink.faults c.requests.sink) (g.O.Sink.faults c.exchange.new.sink)
+    (given c.args.source.now) (given c.exchange.new.source) c.in-Ok.feed c.exchange.new.feed g.D.B.Blob.faults c.in-Ended.ended
+    before.source_later before.sink_later c.in-Ok.ensures.taken counts c.in-Ended.ensures.causes

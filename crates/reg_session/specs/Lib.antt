@@ -1,0 +1,12 @@
+pub mod Requests
+pub mod Turns
+pub mod Works
+pub mod Sessions
+pub mod Holders
+pub mod Holds
+pub mod Bodies
+pub mod Sending
+pub mod InnerBodies
+pub mod InnerSending
+pub mod InnerReplies
+pub mod InnerSteps

@@ -1,0 +1,75 @@
+-- Whole sessions.
+use Rattle.std.specs.Prelude.{◌≡◌, ℕ, ◌+◌, ◌<◌, ◌≤◌, ◌^◌, false, List, map, flat_map, Option, ⊤}
+use Rattle.std.specs.List.{AllByRecursion}
+use Rattle.std.specs.Io.KnownBytes.{Appends}
+use Rattle.reg_names.specs.Cause.{HasCause}
+use Rattle.http_wire.specs.Flow.{OnStream}
+use Rattle.reg_world.specs.Worlds.{Data}
+use Rattle.reg_session.specs.declared.ended.Ended.{Ended}
+use Rattle.reg_session.specs.declared.ended.Ended.TheVariants as ends
+use Rattle.reg_session.specs.Requests.{Reads}
+use Rattle.reg_session.specs.Turns.{Chain, Turn, IsTurn, closes, talk}
+use Rattle.reg_session.specs.Works.{Work, holds_of, IsWork, Took, EndsWith, EndsOn, LeavesNothing, Wrote}
+
+-- the world, the bytes to come, what the source has left of them, and the bytes written, at one moment of a session
+pub record At : Type 0 where
+  pub world : Data
+  pub bytes : Option (List ℕ)
+  pub left : Option (List ℕ)
+  pub written : Option (List ℕ)
+
+abbrev pub here : Data → Option (List ℕ) → Option (List ℕ) → Option (List ℕ) → At
+here world bytes left written = record { world = world; bytes = bytes; left = left; written = written }
+
+-- a request that was served, behind which the session goes on
+abbrev pub IsServed : Turn → Type 0
+IsServed t = IsTurn t × (closes t ≡ false)
+
+-- these requests were served, one after the other
+pub record Serves (between : Data → Data → Type 0) (old new : At) (turns : List Turn) : Type 0 where
+  -- each by its own holds
+  pub each : AllByRecursion IsServed turns
+  -- which lead from one world to the other
+  pub holds : Chain between old.world (flat_map (λ t. t.holds) turns) new.world
+  -- their spellings were read
+  pub read : OnStream old.bytes new.bytes (Reads (map (λ t. t.request) turns))
+  -- and their replies were written
+  pub wrote : Appends old.written new.written (flat_map talk turns)
+
+-- the session ended with this work
+pub record EndsBy {B : Type 0} (between : Data → Data → Type 0) (old new : At) (ended : Ended B) (work : Work)
+    : Type 0 where
+  pub done : IsWork work
+  pub ends : EndsWith ended work
+  pub holds : Chain between old.world (holds_of work) new.world
+  pub read : OnStream old.bytes new.bytes (λ bytes rest. Took work bytes rest × EndsOn ended work bytes)
+  pub at_end : LeavesNothing ended work new.left
+  pub wrote : Wrote ended old.written new.written work
+
+-- a whole session, from a world and what its source has left: requests that were served, and the one in work at its end
+pub record Session {B : Type 0} (between : Data → Data → Type 0) (old new : At) (ended : Ended B) : Type 0 where
+  pub turns : List Turn
+  pub work : Work
+  pub mid : At
+  pub rest : Option (List ℕ)
+  pub serves : Serves between old mid turns
+  pub ends : EndsBy between mid (record new { bytes = rest }) ended work
+
+-- ---- causes
+
+-- a blob that failed has had a fault
+abbrev pub IfBlobFault : {B : Type 0} → (B → ℕ) → Ended B → Type 0
+IfBlobFault faults (ends.BlobFault blob) = 0 < faults blob
+IfBlobFault faults ended = ⊤
+
+-- a count of bytes that were given rose by 2^50, as far as it counts
+abbrev pub GaveMany : ℕ → ℕ → Type 0
+GaveMany before now = now < 2 ^ 62 → before + 2 ^ 50 ≤ now
+
+-- faults are told only where the counts rose, and that an input is too long only of one that is
+pub record Causes {B : Type 0} (source_before source_now sink_before sink_now given given_now : ℕ) (faults : B → ℕ)
+    (ended : Ended B) : Type 0 where
+  pub source : HasCause source_before source_now (ended ≡ ends.SourceFault)
+  pub sink : HasCause sink_before sink_now (ended ≡ ends.SinkFault)
+  pub blob : IfBlobFault faults ended
+  pub long : ended ≡ ends.Long → GaveMany given given_now

@@ -1,0 +1,193 @@
+-- The last of a session: the request in work, and how the session ended.
+use Rattle.std.specs.Prelude.{◌≡◌, ◌≢◌, ℕ, ◌⊎◌, Bool, true, false, List, [], ◌++◌, Option, ⊤}
+use Rattle.std.specs.Io.KnownBytes.{Appends, IsAtEnd}
+use Rattle.http_wire.specs.Answers.{IsBadHead}
+use Rattle.http_wire.specs.Bodies.{is_cut_short, is_malformed}
+use Rattle.http_wire.specs.Filling.{Filling, within, is_too_long}
+use Rattle.http_wire.specs.Heads.{Holds, is_nothing, is_cut}
+use Rattle.http_wire.specs.Messages.{ReadsBody}
+use Rattle.reg_entries.specs.Numbers as numbers
+use Rattle.reg_entries.specs.declared.reply.Reply.{Reply}
+use Rattle.reg_entries.specs.declared.reply.Reply.TheVariants as replies
+use Rattle.reg_model.specs.Answers.{plain, refusal}
+use Rattle.reg_model.specs.Blobs.{IsBlob}
+use Rattle.reg_replies.specs.Replies.{wire}
+use Rattle.reg_replies.specs.Writing.{TookFront, memory_wire}
+use Rattle.reg_session.specs.declared.ended.Ended.{Ended}
+use Rattle.reg_session.specs.declared.ended.Ended.TheVariants as ends
+use Rattle.reg_session.specs.Sending.{BreaksOff}
+use Rattle.reg_session.specs.Requests.{Parts, asked_in, head_only, is_last, awaits, limit_of, body_state, HasHead, ReadsRequest, ReadsFront}
+use Rattle.reg_session.specs.Turns.{Hold, Replies, goes_on, interim, Turn, IsTurn, content, opening, talk}
+
+-- a request whose head was read, and this front of its body
+pub record Begun : Type 0 where
+  pub parts : Parts
+  pub begin : List ℕ
+
+-- what became of the request in work
+pub data Work : Type 0 where
+  -- there was none
+  idle : Work
+  -- its head was read
+  began : Begun → Work
+  -- bytes that are no head were refused, by the number of the refusal
+  turned_away : ℕ → Work
+  -- its body was refused, by the number of the refusal
+  refused : Begun → ℕ → Work
+  -- it was refused before its body came, since it waited to be told to go on
+  denied : Parts → Reply → Work
+  -- it was served
+  served : Turn → Work
+
+-- the holds that were made for it
+abbrev pub holds_of : Work → List Hold
+holds_of (served t) = t.holds
+holds_of work = []
+
+-- ---- what was to be written
+
+-- all of it
+abbrev pub text_of : Work → List ℕ
+text_of idle = []
+text_of (began b) = interim b.parts
+text_of (turned_away n) = wire (refusal n) false true
+text_of (refused b n) = interim b.parts ++ wire (refusal n) (head_only b.parts) true
+text_of (denied p reply) = wire reply (head_only p) true
+text_of (served t) = talk t
+
+-- what comes before the reply
+abbrev pub before_reply : Work → List ℕ
+before_reply (began b) = interim b.parts
+before_reply (refused b n) = interim b.parts
+before_reply (served t) = interim t.request.parts
+before_reply work = []
+
+-- whether it is answered without a body
+abbrev pub is_head : Work → Bool
+is_head (began b) = head_only b.parts
+is_head (refused b n) = head_only b.parts
+is_head (denied p reply) = head_only p
+is_head (served t) = head_only t.request.parts
+is_head work = false
+
+-- ---- what was done
+
+-- the reply is known from the head alone, and the request is not told to go on
+pub record IsDenied (p : Parts) (reply : Reply) : Type 0 where
+  pub waits : awaits p ≡ true
+  pub known : goes_on (asked_in p) ≡ false
+  pub replies_so : Replies (asked_in p) [] (plain reply)
+
+abbrev pub IsWork : Work → Type 0
+IsWork (denied p reply) = IsDenied p reply
+IsWork (served t) = IsTurn t
+IsWork work = ⊤
+
+-- ---- what was read
+
+-- the bytes are a head of these parts, and a body of which this was decoded, and which ends so
+abbrev pub HasBody : Begun → Filling → List ℕ → Type 0
+HasBody b filling bytes =
+    (behind : List ℕ) × HasHead bytes b.parts behind
+    × ReadsBody (limit_of b.parts) (body_state b.parts) behind b.begin filling
+
+-- the body is refused: it passes its limit, or is malformed
+abbrev pub IsBadBody : Begun → ℕ → List ℕ → Type 0
+IsBadBody b n bytes =
+    ((n ≡ numbers.body_too_large) × HasBody b is_too_long bytes)
+    ⊎ ((n ≡ numbers.not_a_request) × HasBody b (within is_malformed) bytes)
+
+abbrev pub Took : Work → List ℕ → List ℕ → Type 0
+Took idle old new = new ≡ old
+Took (began b) old new =
+    (behind : List ℕ) × HasHead old b.parts behind
+    × ReadsFront (limit_of b.parts) (body_state b.parts) behind b.begin new
+Took (turned_away n) old new = IsBadHead old n
+Took (refused b n) old new = IsBadBody b n old
+Took (denied p reply) old new = HasHead old p new
+Took (served t) old new = ReadsRequest old t.request new
+
+-- ---- how it ended
+
+-- the number of a refusal
+abbrev pub number_of : Reply → ℕ
+number_of (replies.WrongStart name id offset) = numbers.wrong_start
+number_of (replies.NotAllowed route) = numbers.method_not_allowed
+number_of (replies.Refused told) = told.number
+number_of reply = 0
+
+-- no reply to the request was due yet
+abbrev pub IsUnanswered : Work → Type 0
+IsUnanswered idle = ⊤
+IsUnanswered (began b) = ⊤
+IsUnanswered work = ⊥
+
+-- there was no request, or one that ended the connection
+abbrev pub IsDone : Work → Type 0
+IsDone idle = ⊤
+IsDone (served t) = is_last t.request.parts ≡ true
+IsDone work = ⊥
+
+abbrev pub IsRefusedBy : ℕ → Work → Type 0
+IsRefusedBy n (turned_away m) = n ≡ m
+IsRefusedBy n (refused b m) = n ≡ m
+IsRefusedBy n (denied p reply) = n ≡ number_of reply
+IsRefusedBy n work = ⊥
+
+-- a blob was being sent
+abbrev pub IsSendingBlob : Work → Type 0
+IsSendingBlob (served t) = IsBlob t.answer.reply × (head_only t.request.parts ≡ false)
+IsSendingBlob work = ⊥
+
+-- which work a session may end with
+abbrev pub EndsWith : {B : Type 0} → Ended B → Work → Type 0
+EndsWith ends.Done work = IsDone work
+EndsWith (ends.Refused n) work = IsRefusedBy n work
+EndsWith ends.Cut work = IsUnanswered work
+EndsWith ends.SourceFault work = IsUnanswered work
+EndsWith ends.SinkFault work = text_of work ≢ []
+EndsWith (ends.BlobFault blob) work = IsSendingBlob work
+EndsWith ends.Long work = IsUnanswered work
+EndsWith ends.NoMemory work = ⊤
+
+-- the input ended between requests
+abbrev pub EndsBetween : Work → List ℕ → Type 0
+EndsBetween idle bytes = Holds bytes is_nothing
+EndsBetween work bytes = ⊤
+
+-- or inside a head, or inside a body
+abbrev pub EndsInside : Work → List ℕ → Type 0
+EndsInside idle bytes = Holds bytes is_cut
+EndsInside (began b) bytes = HasBody b (within is_cut_short) bytes
+EndsInside work bytes = ⊥
+
+-- what the bytes before the work are then
+abbrev pub EndsOn : {B : Type 0} → Ended B → Work → List ℕ → Type 0
+EndsOn ends.Done work bytes = EndsBetween work bytes
+EndsOn ends.Cut work bytes = EndsInside work bytes
+EndsOn ended work bytes = ⊤
+
+-- the source has nothing left where the input ended
+abbrev pub LeavesNothing : {B : Type 0} → Ended B → Work → Option (List ℕ) → Type 0
+LeavesNothing ends.Done idle left = IsAtEnd left
+LeavesNothing ends.Cut work left = IsAtEnd left
+LeavesNothing ended work left = ⊤
+
+-- ---- what was written
+
+abbrev pub BreaksInBlob : Option (List ℕ) → Option (List ℕ) → Work → Type 0
+BreaksInBlob old new (served t) = BreaksOff old new (opening t) (content t.request.parts t.answer)
+BreaksInBlob old new work = ⊥
+
+-- at most what comes before the reply, and at most the reply for want of memory
+pub record WroteMemory (old new : Option (List ℕ)) (work : Work) : Type 0 where
+  pub mid : Option (List ℕ)
+  pub before : TookFront old mid (before_reply work)
+  pub reply : TookFront mid new (memory_wire (is_head work))
+
+-- All was written; where the sink failed, a front of it; where a blob failed, all up to a place inside the blob.
+abbrev pub Wrote : {B : Type 0} → Ended B → Option (List ℕ) → Option (List ℕ) → Work → Type 0
+Wrote ends.SinkFault old new work = TookFront old new (text_of work)
+Wrote (ends.BlobFault blob) old new work = BreaksInBlob old new work
+Wrote ends.NoMemory old new work = WroteMemory old new work
+Wrote ended old new work = Appends old new (text_of work)

@@ -1,0 +1,77 @@
+//! One hold each.
+ghost use Rattle.std.specs.Prelude.{◌≡◌, IfOk, option_copied};
+ghost use Rattle.reg_entries.specs.declared.ask.Ask.TheVariants as asks;
+ghost use Rattle.reg_model.specs.Blobs.{IsPaired};
+ghost use Rattle.files_service.specs.Answers.{IsFresh};
+ghost use Rattle.reg_world.specs.Moves.{answers, seen_of};
+ghost use Rattle.reg_session.specs.Holds.{Held, HeldBlob};
+
+use crate::holder::Turns;
+use depot_api::Depot;
+use reg_entries::{Reply, Trouble};
+use reg_names::{Digest, Name, Reference, Text};
+use std::alloc::Global;
+
+/// The manifest that a repository has under a reference, or a refusal.
+pub(crate) fn pull_manifest<D: Depot, K, P, H: Turns<D, K, P>>(
+    alloc: Global,
+    holder: &mut H,
+    pass: &P,
+    name: &Name,
+    at: &Option<Reference>,
+) -> Result<Reply, Trouble>
+    requires { H.may_enter holder.old }
+    ensures outside { H.may_enter holder.new }
+    ensures same { (origin : H) → H.is_of origin holder.old → H.is_of origin holder.new }
+    ensures held { Held H.between (H.at holder.old) (answers (asks.GetManifest name.now at.now))
+        (seen_of result) (H.at holder.new) }
+{
+    holder.enter(pass);
+    let found = holder.world().pull_manifest(alloc, name, at);
+    holder.leave();
+    found
+}
+
+/// A blob that a repository links, with the reply that tells its size, or a refusal.
+pub(crate) fn pull_blob<D: Depot, K, P, H: Turns<D, K, P>>(
+    alloc: Global,
+    holder: &mut H,
+    pass: &P,
+    name: &Name,
+    digest: &Digest,
+) -> Result<(Reply, Option<D::B>), Trouble>
+    requires { H.may_enter holder.old }
+    ensures outside { H.may_enter holder.new }
+    ensures same { (origin : H) → H.is_of origin holder.old → H.is_of origin holder.new }
+    ensures held { HeldBlob D.B.rest H.between (H.at holder.old)
+        (answers (asks.GetBlob name.now digest.now)) result (H.at holder.new) }
+    ensures paired { IfOk result IsPaired }
+    ensures fresh { IsFresh D.B.faults result }
+{
+    holder.enter(pass);
+    let found = holder.world().pull_blob(alloc, name, digest);
+    holder.leave();
+    found
+}
+
+/// The tags of a repository, or a refusal.
+pub(crate) fn list_tags<D: Depot, K, P, H: Turns<D, K, P>>(
+    alloc: Global,
+    holder: &mut H,
+    pass: &P,
+    name: &Name,
+    n: Option<u64>,
+    last: Option<&Text>,
+) -> Result<Reply, Trouble>
+    requires { H.may_enter holder.old }
+    ensures outside { H.may_enter holder.new }
+    ensures same { (origin : H) → H.is_of origin holder.old → H.is_of origin holder.new }
+    ensures held { Held H.between (H.at holder.old)
+        (answers (asks.Tags name.now n (option_copied last.entry))) (seen_of result)
+        (H.at holder.new) }
+{
+    holder.enter(pass);
+    let found = holder.world().list_tags(alloc, name, n, last);
+    holder.leave();
+    found
+}
