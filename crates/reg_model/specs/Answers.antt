@@ -131,10 +131,6 @@ pub record IsAnswer (facts : Facts) (ask : Ask) (answer : Answer) : Type 0 where
   pub reply : IsReply facts.state ask answer.reply
   pub sends : Sends facts ask answer
 
--- what an ask that reads leaves of the registry: all as it was
-abbrev pub after : Facts → Ask → Facts
-after facts ask = facts
-
 -- ---- what the state alone decides
 
 -- two replies are one, or have the same manifest of one kind and size
