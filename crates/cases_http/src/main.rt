@@ -15,13 +15,19 @@ use std::alloc::Global;
 use std::io;
 
 fn main(rt: HostRuntime) -> io::Result<()> {
-    answer_lines::<Http, _>(&rt)
+    answer_lines(&rt, &mut Http)
 }
 
+#[derive(Drop)]
 struct Http;
 
 impl Cases for Http {
-    fn answer(alloc: Global, kind: &str, text: &[u8]) -> Result<Option<String>, NoMemory> {
+    fn answer(
+        &mut self,
+        alloc: Global,
+        kind: &str,
+        text: &[u8],
+    ) -> Result<Option<String>, NoMemory> {
         match kind {
             "stream" => Ok(Some(streams::answer(alloc, text)?)),
             "head" => heads::parts_answer(alloc, text),

@@ -12,17 +12,25 @@ use std::io;
 
 /// The cases that a program answers.
 pub trait Cases {
-    /// The answer to a case of this kind, and `None` where there is no such kind. A text is bytes.
-    fn answer(alloc: Global, kind: &str, text: &[u8]) -> Result<Option<String>, NoMemory>;
+    /// The answer to a case of this kind, and `None` where there is none to write. A text is bytes.
+    fn answer(
+        &mut self,
+        alloc: Global,
+        kind: &str,
+        text: &[u8],
+    ) -> Result<Option<String>, NoMemory>;
 }
 
 /// Writes each line of the input, a case with its answer.
-pub fn answer_lines<C: Cases, R: Input + Print + AllocGlobal>(rt: &R) -> io::Result<()> {
+pub fn answer_lines<C: Cases, R: Input + Print + AllocGlobal>(
+    rt: &R,
+    cases: &mut C,
+) -> io::Result<()> {
     let texts = BTreeMap::new(rt.alloc());
     let mut letters = Letters { texts };
     for line in rt.lines(rt.alloc()) {
         let line = line?;
-        let answer = letters.answer::<C>(rt.alloc(), line.as_str());
+        let answer = letters.answer(rt.alloc(), cases, line.as_str());
         match answer.map_err(|_| AllocError)? {
             Some(answer) => println!(rt; "{line} => {answer}")?,
             None => println!(rt; "{line}")?,
@@ -39,7 +47,12 @@ struct Letters {
 
 impl Letters {
     // The answer to a line that is a case. A definition gives its letter the text.
-    fn answer<C: Cases>(&mut self, alloc: Global, line: &str) -> Result<Option<String>, NoMemory> {
+    fn answer<C: Cases>(
+        &mut self,
+        alloc: Global,
+        cases: &mut C,
+        line: &str,
+    ) -> Result<Option<String>, NoMemory> {
         let (kind, text) = line.split_once(' ').unwrap_or((line, ""));
         match kind {
             "" | "#" => Ok(None),
@@ -48,7 +61,7 @@ impl Letters {
                 Ok(None)
             }
             _ => match self.expand(alloc, text)? {
-                Some(text) => C::answer(alloc, kind, text.as_slice()),
+                Some(text) => cases.answer(alloc, kind, text.as_slice()),
                 None => Ok(None),
             },
         }

@@ -14,13 +14,19 @@ use std::alloc::Global;
 use std::{io, str};
 
 fn main(rt: HostRuntime) -> io::Result<()> {
-    answer_lines::<Texts, _>(&rt)
+    answer_lines(&rt, &mut Texts)
 }
 
+#[derive(Drop)]
 struct Texts;
 
 impl Cases for Texts {
-    fn answer(alloc: Global, kind: &str, text: &[u8]) -> Result<Option<String>, NoMemory> {
+    fn answer(
+        &mut self,
+        alloc: Global,
+        kind: &str,
+        text: &[u8],
+    ) -> Result<Option<String>, NoMemory> {
         Ok(Some(match kind {
             "name" => yes_or_no(alloc, is_name(alloc, text)?)?,
             "tag" => yes_or_no(alloc, Tag::read_bytes(alloc, text)?.is_some())?,

@@ -1,37 +1,46 @@
--- What a run is told of its devices: what each held and how often it had failed, before a call and after it.
-use Rattle.std.specs.Prelude.{ℕ, true, false, List, Option}
-use Rattle.reg_names.specs.Cause.{Rose}
-use Rattle.depot_api.specs.Files.{Files}
+-- What a run is told of its devices, as plain data: before it and after it.
+use Rattle.std.specs.Prelude.{ℕ, List, Option}
 use Rattle.depot_api.specs.Holdings.{Holding}
+use Rattle.reg_world.specs.Worlds.{Data}
 
--- what a depot held before a call, and how often it had failed before the call and after it
-pub record Seen : Type 0 where
-  pub held : Holding
-  pub before : ℕ
-  pub now : ℕ
+-- a depot, as a world of it would be
+abbrev pub seen : {D : Type 0} → (D → Holding) → (D → ℕ) → D → Data
+seen held faults depot = record { held = held depot; faults = faults depot }
 
-abbrev pub seen : {D : Type 0} → (D → Holding) → (D → ℕ) → D → D → Seen
-seen held faults old new = record { held = held old; before = faults old; now = faults new }
+pub record Depots : Type 0 where
+  pub before : Data
+  pub after : Data
 
--- the depot's count of faults rose
-abbrev pub DepotRose : Seen → Type 0
-DepotRose depot = Rose depot.before depot.now
+abbrev pub depots : {D : Type 0} → (D → Holding) → (D → ℕ) → D → D → Depots
+depots held faults old new = record { before = seen held faults old; after = seen held faults new }
 
--- the bytes that a source had left or a sink had taken, where they are told, and how often it had failed: before a call
--- and after it
-pub record Transfer : Type 0 where
-  pub old : Option (List ℕ)
-  pub new : Option (List ℕ)
-  pub before : ℕ
-  pub now : ℕ
+-- what the input had left, where it is told, how many bytes it had given, and how often it had failed
+pub record Read : Type 0 where
+  pub left : Option (List ℕ)
+  pub left_after : Option (List ℕ)
+  pub given : ℕ
+  pub given_after : ℕ
+  pub faults : ℕ
+  pub faults_after : ℕ
 
-abbrev pub transfer : {S : Type 0} → (S → Option (List ℕ)) → (S → ℕ) → S → S → Transfer
-transfer bytes faults old new = record { old = bytes old; new = bytes new; before = faults old; now = faults new }
+abbrev pub read_of : {S : Type 0} → (S → Option (List ℕ)) → (S → ℕ) → (S → ℕ) → S → S → Read
+read_of left given faults old new =
+    record {
+      left = left old;
+      left_after = left new;
+      given = given old;
+      given_after = given new;
+      faults = faults old;
+      faults_after = faults new;
+    }
 
--- its count of faults rose
-abbrev pub TransferRose : Transfer → Type 0
-TransferRose moved = Rose moved.before moved.now
+-- what the output had taken, where it is told, and how often it had failed
+pub record Written : Type 0 where
+  pub taken : Option (List ℕ)
+  pub taken_after : Option (List ℕ)
+  pub faults : ℕ
+  pub faults_after : ℕ
 
--- a depot that tells these files, has lent none of them, and did not fail
-abbrev pub sound : Files → Seen
-sound files = record { held = record { tells = true; files = files; lent = λ _. false }; before = 0; now = 0 }
+abbrev pub written_of : {O : Type 0} → (O → Option (List ℕ)) → (O → ℕ) → O → O → Written
+written_of taken faults old new =
+    record { taken = taken old; taken_after = taken new; faults = faults old; faults_after = faults new }

@@ -1,11 +1,4 @@
-pub mod Replies
 pub mod Devices
-pub mod Answers
 pub mod Statuses
-pub mod Sending
-pub mod Runs
 pub mod Arguments
-pub mod InMemory
-pub mod InnerAnswers
-pub mod InnerSending
-pub mod InnerRuns
+pub mod Runs

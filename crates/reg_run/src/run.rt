@@ -1,24 +1,19 @@
 //! The top call.
-ghost use Rattle.std.specs.Prelude.{◌≡◌, ◌≢◌, ◌≤◌, ◌+◌, ◌↔◌, map};
+ghost use Rattle.std.specs.Prelude.{◌≡◌, ◌≤◌, ◌↔◌, map};
 ghost use Rattle.std.specs.String.{string_bytes};
-ghost use Rattle.reg_names.specs.Cause.{Rose, OnlyReads};
-ghost use Rattle.pull_reading.specs.Requests.{longest_request};
-ghost use Rattle.reg_run.specs.Devices.{seen, transfer};
+ghost use Rattle.reg_session.specs.Sessions.{IfBlobFault};
+ghost use Rattle.reg_run.specs.Devices.{seen, depots, read_of, written_of};
 ghost use Rattle.reg_run.specs.Arguments.{AreArguments, usage};
-ghost use Rattle.reg_run.specs.Statuses.{code, Exits};
-ghost use Rattle.reg_run.specs.Runs.{IsAskless, EndsRun, Writes};
-ghost use Rattle.reg_run.specs.InnerRuns.{DeliversBlob, EndsServing};
+ghost use Rattle.reg_run.specs.Statuses.{code, status_of};
+ghost use Rattle.reg_run.specs.Runs.{Once, HandsBack, Writes};
 ghost use Rattle.reg_run.specs.declared.status.Status.TheVariants as statuses;
 
-use crate::answers::answer;
 use crate::arguments::{USAGE, are_accepted};
-use crate::delivery::{deliver_blob, deliver_manifest, deliver_tags, refuse};
-use crate::reply::{Refusal, Reply};
-use crate::sending::write_all;
 use crate::status::Status;
 use depot_api::{Clock, Depot, Ids, Sink, Source};
-use pull_reading::{self, Ask, Asked, Unread};
-use reg_names::Digest;
+use reg_replies::write_all;
+use reg_session::{Ended, serve_alone};
+use reg_world::begin;
 use std::alloc::Global;
 
 /// How a run ended, and the devices that it was given.
@@ -30,39 +25,35 @@ pub struct Ran<D, K> {
     pub keeper: K,
 }
 
-/// Runs one command. `once` answers the request at the front of the input.
+/// Runs one command. `once` answers the requests of the input, one after the other, until the connection ends.
 pub fn run_plain<D: Depot, K, C: Clock, I: Ids, S: Source, O: Sink>(
     alloc: Global,
     words: &[String],
-    mut depot: D,
+    depot: D,
     keeper: K,
     clock: &mut C,
     ids: &mut I,
     input: &mut S,
     out: &mut O,
 ) -> Ran<D, K>
+where
+    D::B: Drop,
     // The arguments decide.
     ensures arguments { (result.status ≡ code statuses.Usage)
         ↔ (¬ AreArguments (map string_bytes words.now)) }
     ensures usage { ¬ AreArguments (map string_bytes words.now)
-        → Writes (transfer O.taken O.faults out.old out.new) usage }
-    // What was written, and the status.
-    ensures once { AreArguments (map string_bytes words.now)
-        → Exits (EndsRun (seen D.held D.faults depot result.depot)
-        (transfer S.left S.faults input.old input.new)
-        (transfer O.taken O.faults out.old out.new)) result.status }
-    // What is not needed is not touched.
+        → Writes (written_of O.taken O.faults out.old out.new) usage }
     ensures untouched { ¬ AreArguments (map string_bytes words.now)
         → (result.depot ≡ depot) × (input.new ≡ input.old) }
-    ensures idle { IsAskless (S.left input.old) → result.depot ≡ depot }
-    ensures reach { S.given input.new ≤ S.given input.old + longest_request }
-    // The devices come back as they were, and no count falls.
-    ensures reads { OnlyReads D.held D.faults depot result.depot ⊥ }
+    // The session, and the status.
+    ensures once { AreArguments (map string_bytes words.now)
+        → Once D.B.faults (depots D.held D.faults depot result.depot)
+        (read_of S.left S.given S.faults input.old input.new)
+        (written_of O.taken O.faults out.old out.new) result.status }
+    // What is not needed comes back as it was.
     ensures keeper { result.keeper ≡ keeper }
     ensures clock { clock.new ≡ clock.old }
     ensures ids { ids.new ≡ ids.old }
-    ensures input_faults { S.faults input.old ≤ S.faults input.new }
-    ensures out_faults { O.faults out.old ≤ O.faults out.new }
 {
     if !are_accepted(words) {
         let _ = write_all(out, USAGE.as_bytes());
@@ -72,7 +63,31 @@ pub fn run_plain<D: Depot, K, C: Clock, I: Ids, S: Source, O: Sink>(
             keeper,
         };
     }
-    let status = once(alloc, &mut depot, input, out);
+    once(alloc, depot, keeper, clock, ids, input, out)
+}
+
+// Serves the connection whose bytes are the input.
+fn once<D: Depot, K, C: Clock, I: Ids, S: Source, O: Sink>(
+    alloc: Global,
+    depot: D,
+    keeper: K,
+    clock: &C,
+    ids: &mut I,
+    input: &mut S,
+    out: &mut O,
+) -> Ran<D, K>
+where
+    D::B: Drop,
+    ensures once { Once D.B.faults (depots D.held D.faults depot result.depot)
+        (read_of S.left S.given S.faults input.old input.new)
+        (written_of O.taken O.faults out.old out.new) result.status }
+    ensures keeper { result.keeper ≡ keeper }
+    ensures ids { ids.new ≡ ids.old }
+{
+    let mut world = begin(depot, keeper);
+    let ended = serve_alone(alloc, &mut world, clock, ids, input, out);
+    let (mut depot, keeper) = world.stop();
+    let status = settle(&mut depot, ended);
     Ran {
         status: status.code(),
         depot,
@@ -80,64 +95,18 @@ pub fn run_plain<D: Depot, K, C: Clock, I: Ids, S: Source, O: Sink>(
     }
 }
 
-// Answers the request at the front of the input, and tells the status.
-fn once<D: Depot, S: Source, O: Sink>(
-    alloc: Global,
-    depot: &mut D,
-    input: &mut S,
-    out: &mut O,
-) -> Status
-    ensures ends { EndsRun (seen D.held D.faults depot.old depot.new)
-        (transfer S.left S.faults input.old input.new)
-        (transfer O.taken O.faults out.old out.new) result }
-    ensures status { result ≢ statuses.Usage }
-    ensures idle { IsAskless (S.left input.old) → depot.new ≡ depot.old }
-    ensures reach { S.given input.new ≤ S.given input.old + longest_request }
-    ensures reads { OnlyReads D.held D.faults depot.old depot.new ⊥ }
-    ensures input_faults { S.faults input.old ≤ S.faults input.new }
-    ensures out_faults { O.faults out.old ≤ O.faults out.new }
+// Hands a blob that failed back to its depot, and tells the status.
+fn settle<D: Depot>(depot: &mut D, ended: Ended<D::B>) -> Status
+where
+    D::B: Drop,
+    requires { IfBlobFault D.B.faults ended }
+    ensures status { result ≡ status_of ended }
+    ensures depot { HandsBack ended (seen D.held D.faults depot.old)
+        (seen D.held D.faults depot.new) }
 {
-    match pull_reading::read(alloc, input) {
-        Ok(Asked::Pull(ask)) => serve(alloc, depot, out, &ask),
-        Ok(Asked::Nothing) => Status::Done,
-        Ok(Asked::Cut) => Status::NotARequest,
-        Ok(Asked::NoRequest) => refuse(out, Refusal::NotARequest),
-        Err(Unread::SourceFault) => Status::Fault,
-        Err(Unread::NoMemory) => refuse(out, Refusal::NoMemory),
+    let status = Status::of(&ended);
+    if let Ended::BlobFault(blob) = ended {
+        depot.done(blob);
     }
-}
-
-// Answers an ask, and tells the status.
-fn serve<D: Depot, O: Sink>(alloc: Global, depot: &mut D, out: &mut O, ask: &Ask) -> Status
-    ensures ends { EndsServing ask.now (seen D.held D.faults depot.old depot.new)
-        (transfer O.taken O.faults out.old out.new) result }
-    ensures reads { OnlyReads D.held D.faults depot.old depot.new ⊥ }
-    ensures out_faults { O.faults out.old ≤ O.faults out.new }
-{
-    match answer(alloc, depot, ask) {
-        Reply::Manifest(manifest) => deliver_manifest(alloc, out, &manifest),
-        Reply::Blob(digest, blob) => serve_blob(alloc, depot, out, &digest, blob),
-        Reply::Tags(name, tags) => deliver_tags(alloc, out, &name, &tags),
-        Reply::Refused(refusal) => refuse(out, refusal),
-    }
-}
-
-// Delivers a blob, gives it back to its depot, and tells the status.
-fn serve_blob<D: Depot, O: Sink>(
-    alloc: Global,
-    depot: &mut D,
-    out: &mut O,
-    digest: &Digest,
-    mut blob: D::B,
-) -> Status
-    requires { D.B.faults blob ≡ 0 }
-    ensures ends { DeliversBlob digest.now (D.B.rest blob)
-        (Rose (D.faults depot.old) (D.faults depot.new))
-        (transfer O.taken O.faults out.old out.new) result }
-    ensures reads { OnlyReads D.held D.faults depot.old depot.new ⊥ }
-    ensures out_faults { O.faults out.old ≤ O.faults out.new }
-{
-    let status = deliver_blob(alloc, out, digest, &mut blob);
-    depot.done(blob);
     status
 }

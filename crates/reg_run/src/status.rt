@@ -1,11 +1,13 @@
 //! How the program ends.
 ghost use Rattle.std.specs.Prelude.{◌≡◌};
-ghost use Rattle.reg_run.specs.Statuses.{code};
+ghost use Rattle.reg_run.specs.Statuses.{code, status_of};
+
+use reg_session::Ended;
 
 /// How a run ended.
 #[derive(Clone, Copy, Debug, PartialEq, Eq)]
 pub enum Status {
-    /// A reply was written, or the input was empty.
+    /// Each request was answered: the input ended between two of them, or the last one ended the connection.
     Done,
     /// The command-line arguments were refused.
     Usage,
@@ -13,11 +15,26 @@ pub enum Status {
     Fault,
     /// Memory was wanting.
     NoMemory,
-    /// The input began with no request, or ended inside one.
-    NotARequest,
+    /// A request was not served: the input ended inside it, or a refusal was written that ends the connection.
+    Unserved,
+    /// The input gave 2^50 bytes.
+    Long,
 }
 
 impl Status {
+    /// The status of a run whose session ended so.
+    pub fn of<B>(ended: &Ended<B>) -> Status
+        ensures { result ≡ status_of ended.now }
+    {
+        match ended {
+            Ended::Done => Status::Done,
+            Ended::Refused(_) | Ended::Cut => Status::Unserved,
+            Ended::SourceFault | Ended::SinkFault | Ended::BlobFault(_) => Status::Fault,
+            Ended::Long => Status::Long,
+            Ended::NoMemory => Status::NoMemory,
+        }
+    }
+
     /// The exit status of the process.
     pub fn code(self) -> u8
         ensures { result ≡ code self }
@@ -27,7 +44,8 @@ impl Status {
             Status::Usage => 2,
             Status::Fault => 5,
             Status::NoMemory => 9,
-            Status::NotARequest => 10,
+            Status::Unserved => 10,
+            Status::Long => 11,
         }
     }
 }

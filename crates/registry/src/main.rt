@@ -1,7 +1,7 @@
-//! The registry's program: `once` reads one request from standard input, answers it from a
-//! directory of link files, and writes the reply to standard output.
-//! `reg_run::run_plain` promises exactly what is written and which status is told; here it is
-//! handed the real devices: the directory of `--root`, the standard streams, the system's clock.
+//! The registry's program: `once` serves one connection, whose bytes come on standard input and go to standard output,
+//! from a directory of link files.
+//! `reg_run::run_plain` promises what is written and which status is told; here it is handed the real devices: the
+//! directory of `--root`, the standard streams, the system's clock.
 //! Requests and replies are HTTP/1.1 (RFC 9112), as in the OCI Distribution Specification 1.1.
 #![tactic(auto)]
 

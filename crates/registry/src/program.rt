@@ -2,7 +2,8 @@
 //! system's clock.
 use crate::devices::{ReaderSource, SystemClock, SystemIds, WriterSink};
 use depot_files::FileDepot;
-use reg_run::{Ran, Status, USAGE, root, run_plain, write_all};
+use reg_replies::write_all;
+use reg_run::{Ran, Status, USAGE, root, run_plain};
 use std::alloc::Global;
 use std::io::{self, ErrorKind};
 use std::os::fd::AsRawFd;

@@ -1,4 +1,0 @@
-pub mod Requests
-pub mod InnerFronts
-pub mod InnerParsing
-pub mod InnerUnfinished
