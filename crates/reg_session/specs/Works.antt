@@ -15,7 +15,7 @@ use Rattle.reg_replies.specs.Replies.{wire}
 use Rattle.reg_replies.specs.Writing.{TookFront, memory_wire}
 use Rattle.reg_session.specs.declared.ended.Ended.{Ended}
 use Rattle.reg_session.specs.declared.ended.Ended.TheVariants as ends
-use Rattle.reg_session.specs.Sending.{BreaksOff}
+use Rattle.reg_session.specs.Sending.{Tries, BreaksOff}
 use Rattle.reg_session.specs.Requests.{Parts, asked_in, head_only, is_last, awaits, limit_of, body_state, HasHead, ReadsRequest, ReadsFront}
 use Rattle.reg_session.specs.Turns.{Hold, Replies, goes_on, interim, Turn, IsTurn, content, opening, talk}
 
@@ -179,15 +179,23 @@ abbrev pub BreaksInBlob : Option (List ℕ) → Option (List ℕ) → Work → T
 BreaksInBlob old new (served t) = BreaksOff old new (opening t) (content t.request.parts t.answer)
 BreaksInBlob old new work = ⊥
 
--- at most what comes before the reply, and at most the reply for want of memory
-pub record WroteMemory (old new : Option (List ℕ)) (work : Work) : Type 0 where
-  pub mid : Option (List ℕ)
-  pub before : TookFront old mid (before_reply work)
-  pub reply : TookFront mid new (memory_wire (is_head work))
+-- what was written before memory was wanting: all that comes before the reply, or nothing, where only the head was read
+abbrev pub IsBefore : Work → List ℕ → Type 0
+IsBefore (began b) said = (said ≡ interim b.parts) ⊎ ((said ≡ []) × (b.begin ≡ []))
+IsBefore work said = said ≡ before_reply work
 
--- All was written; where the sink failed, a front of it; where a blob failed, all up to a place inside the blob.
-abbrev pub Wrote : {B : Type 0} → Ended B → Option (List ℕ) → Option (List ℕ) → Work → Type 0
-Wrote ends.SinkFault old new work = TookFront old new (text_of work)
-Wrote (ends.BlobFault blob) old new work = BreaksInBlob old new work
-Wrote ends.NoMemory old new work = WroteMemory old new work
-Wrote ended old new work = Appends old new (text_of work)
+-- and behind it the reply for want of memory, as far as the sink went
+pub record WroteMemory (failed : Type 0) (old new : Option (List ℕ)) (work : Work) : Type 0 where
+  pub said : List ℕ
+  pub before : IsBefore work said
+  pub mid : Option (List ℕ)
+  pub took : Appends old mid said
+  pub reply : Tries failed mid new (memory_wire (is_head work))
+
+-- All was written; where the sink failed, a front of it; where a blob failed, all up to a place inside the blob; and
+-- where memory was wanting, the reply that says so, all of it unless the sink failed.
+abbrev pub Wrote : {B : Type 0} → Type 0 → Ended B → Option (List ℕ) → Option (List ℕ) → Work → Type 0
+Wrote failed ends.SinkFault old new work = TookFront old new (text_of work)
+Wrote failed (ends.BlobFault blob) old new work = BreaksInBlob old new work
+Wrote failed ends.NoMemory old new work = WroteMemory failed old new work
+Wrote failed ended old new work = Appends old new (text_of work)

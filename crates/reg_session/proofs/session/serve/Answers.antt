@@ -1,9 +1,11 @@
 use Rattle.std.proofs.Common.{List, ℕ, [], ◌∷◌, ◌++◌, Option, refl, subst, arith}
+use Rattle.reg_names.specs.Cause.{Rose}
 use Rattle.http_wire.specs.Flow.{stream}
 use Rattle.http_wire.proofs.MovingLaws.{Counts-trans}
 use Rattle.reg_session.specs.Sessions.{here, Serves}
 use Rattle.reg_session.specs.Works.{idle}
-use Rattle.reg_session.proofs.SessionLaws.{serves_none, serves_more, idle_wants, from_empty, session_causes}
+use Rattle.reg_session.proofs.ConcludeLaws.{rose_before}
+use Rattle.reg_session.proofs.SessionLaws.{serves_none, serves_more, ends_before, idle_wants, from_empty, session_causes}
 use Rattle.reg_session.proofs.session.serve.Goals as goal
 
 pub returns-in_default-clause-session : goal.returns-in_default-clause-session
@@ -17,7 +19,7 @@ returns-in_default-clause-session g c =
       mid = here at left left sink;
       rest = left;
       serves = serves_none g.H.Turns.between at left left sink;
-      ends = idle_wants g.H.Turns.between at left left sink (g.O.Sink.taken c.no_memory.new.sink) c.no_memory.result c.no_memory.ensures.ends c.no_memory.ensures.wrote;
+      ends = idle_wants g.H.Turns.between (Rose (g.O.Sink.faults c.args.sink.now) (g.O.Sink.faults c.no_memory.new.sink)) at left left sink (g.O.Sink.taken c.no_memory.new.sink) c.no_memory.result c.no_memory.ensures.ends c.no_memory.ensures.wrote;
     }
 
 pub requests-init : goal.requests-init
@@ -58,6 +60,7 @@ returns-in-Ended-clause-session g c =
     let sink = g.O.Sink.taken c.args.sink.now in
     let so_far = c.requests.invariant.so_far in
     let end = c.in-Ended.ensures.exchanges in
+    let faults = g.O.Sink.faults in
     let mid = here (g.H.Turns.at c.requests.holder) (stream c.requests.feed (S c.requests.source)) (S c.requests.source) (g.O.Sink.taken c.requests.sink) in
     record {
       turns = so_far.0;
@@ -65,7 +68,9 @@ returns-in-Ended-clause-session g c =
       mid = mid;
       rest = stream c.exchange.new.feed (S c.exchange.new.source);
       serves = subst (λ (a : Option (List ℕ)). Serves g.H.Turns.between (here at a left sink) mid so_far.0) (from_empty c.in-Ok.feed.pending left c.in-Ok.ensures.pending) so_far.1;
-      ends = end.1;
+      ends = ends_before g.H.Turns.between (Rose (faults c.requests.sink) (faults c.exchange.new.sink)) (Rose (faults c.args.sink.now) (faults c.exchange.new.sink)) mid
+          (here (g.H.Turns.at c.exchange.new.holder) (stream c.exchange.new.feed (S c.exchange.new.source)) (S c.exchange.new.source) (g.O.Sink.taken c.exchange.new.sink)) c.in-Ended.ended end.0
+          (rose_before (faults c.args.sink.now) (faults c.requests.sink) (faults c.exchange.new.sink) c.requests.invariant.sink_later) end.1;
     }
 
 pub returns-in-Ended-clause-same : goal.returns-in-Ended-clause-same
