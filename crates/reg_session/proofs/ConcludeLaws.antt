@@ -161,20 +161,21 @@ breaks_only p reply (steps.Ended (ends.BlobFault blob)) only is of_blob whole = 
 breaks_only p reply (steps.Ended ends.Long) only is of_blob whole = tt
 breaks_only p reply (steps.Ended ends.NoMemory) only is of_blob whole = tt
 
-so_written : {B : Type 0} (failed : Type 0) (p : Parts) (answer : Answer) (old new : Option (List ℕ)) (step : Step B) → closing p answer ≡ is_last p → WritesAll (is_last p) (wire answer.reply (head_only p) (is_last p)) (content p answer) old new step → BreaksOnlyIn p answer.reply step → ConcludesSo failed p answer old new step
-so_written failed p answer old new steps.Next is w breaks =
+so_written : {B : Type 0} (failed : Type 0) (p : Parts) (answer : Answer) (old new : Option (List ℕ)) (step : Step B) → wants_memory answer.reply ≡ false → closing p answer ≡ is_last p
+    → WritesAll (is_last p) (wire answer.reply (head_only p) (is_last p)) (content p answer) old new step → BreaksOnlyIn p answer.reply step → ConcludesSo failed p answer old new step
+so_written failed p answer old new steps.Next plain is w breaks =
     (is ∙ w.0, subst (λ (b : Bool). Appends old new (wire answer.reply (head_only p) b ++ content p answer)) (sym is) w.1)
-so_written failed p answer old new (steps.Ended ends.Done) is w breaks =
-    (w.0, subst (λ (b : Bool). Appends old new (wire answer.reply (head_only p) b ++ content p answer)) (sym is) w.1)
-so_written failed p answer old new (steps.Ended (ends.Refused n)) is w breaks = absurd w
-so_written failed p answer old new (steps.Ended ends.Cut) is w breaks = absurd w
-so_written failed p answer old new (steps.Ended ends.SourceFault) is w breaks = absurd w
-so_written failed p answer old new (steps.Ended ends.SinkFault) is w breaks =
-    subst (λ (b : Bool). TookFront old new (wire answer.reply (head_only p) b ++ content p answer)) (sym is) w
-so_written failed p answer old new (steps.Ended (ends.BlobFault blob)) is w breaks =
+so_written failed p answer old new (steps.Ended ends.Done) plain is w breaks =
+    (w.0, plain, subst (λ (b : Bool). Appends old new (wire answer.reply (head_only p) b ++ content p answer)) (sym is) w.1)
+so_written failed p answer old new (steps.Ended (ends.Refused n)) plain is w breaks = absurd w
+so_written failed p answer old new (steps.Ended ends.Cut) plain is w breaks = absurd w
+so_written failed p answer old new (steps.Ended ends.SourceFault) plain is w breaks = absurd w
+so_written failed p answer old new (steps.Ended ends.SinkFault) plain is w breaks =
+    (plain, subst (λ (b : Bool). TookFront old new (wire answer.reply (head_only p) b ++ content p answer)) (sym is) w)
+so_written failed p answer old new (steps.Ended (ends.BlobFault blob)) plain is w breaks =
     (breaks.0, breaks.1, subst (λ (b : Bool). BreaksOff old new (wire answer.reply (head_only p) b) (content p answer)) (sym is) w)
-so_written failed p answer old new (steps.Ended ends.Long) is w breaks = absurd w
-so_written failed p answer old new (steps.Ended ends.NoMemory) is w breaks = absurd w
+so_written failed p answer old new (steps.Ended ends.Long) plain is w breaks = absurd w
+so_written failed p answer old new (steps.Ended ends.NoMemory) plain is w breaks = absurd w
 
 -- the head that was written is that of the reply to the request
 pub record IsHeadOf (p : Parts) (reply : Reply) (only last : Bool) (text : List ℕ) : Type 0 where
@@ -193,7 +194,7 @@ pub blob_concludes : {B : Type 0} (rest : B → Rest) (failed : Type 0) (p : Par
 blob_concludes rest failed p reply blob only last text old new step is of_blob h whole = record {
   bytes = h.bytes;
   of_blob = h.of_blob;
-  so = so_written failed p (record { reply = reply; content = h.bytes }) old new step (or_false (is_last p) (wants_memory reply) is.plain)
+  so = so_written failed p (record { reply = reply; content = h.bytes }) old new step is.plain (or_false (is_last p) (wants_memory reply) is.plain)
       (of_reply p reply only last text h.bytes old new step is h.writes)
       (breaks_only p reply step only is.only_is of_blob whole);
 }

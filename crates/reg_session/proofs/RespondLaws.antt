@@ -29,7 +29,7 @@ use Rattle.reg_session.specs.InnerReplies.{line_for, IfStepBlob, RefusesWith, re
 use Rattle.reg_session.specs.InnerSteps.{Line, line, TookBehind, EndsOnBehind, Behind, BreaksWith, broken, StepCauses}
 use Rattle.reg_session.specs.Requests.{Parts, asked_in, awaits, body_state, head_only, limit_by, limit_of, limit_of_ask, ReadsFront}
 use Rattle.reg_session.specs.Sending.{BreaksOff}
-use Rattle.reg_session.specs.Turns.{Hold, Replies, continue_line, goes_on, goes_on_for, interim, Turn, IsTurn, closes, content, opening, talk}
+use Rattle.reg_session.specs.Turns.{Hold, Replies, continue_line, goes_on, goes_on_for, MaySendBody, interim, Turn, IsTurn, closes, content, opening, talk}
 use Rattle.reg_session.specs.Works.{Begun, began, refused, denied, served, text_of, before_reply, is_head, IsDenied, EndsWith, LeavesNothing, Wrote, number_of}
 use Rattle.reg_session.proofs.ConcludeLaws.{front_behind}
 
@@ -79,21 +79,11 @@ some_behind : (x y : List ℕ) → y ≢ [] → x ++ y ≢ []
 some_behind [] y some e = some e
 some_behind (b ∷ x) y some e = cc e
 
-some_before : (x y : List ℕ) → x ≢ [] → x ++ y ≢ []
-some_before [] y some e = some refl
-some_before (b ∷ x) y some e = cc e
-
 first_some : (b : ℕ) (x : List ℕ) → b ∷ x ≢ []
 first_some b x e = cc e
 
 reply_some : (reply : Reply) (only close : Bool) → wire reply only close ≢ []
 reply_some reply only close = first_some 72 _
-
-opening_some : (t : Turn) → opening t ≢ []
-opening_some t = some_behind (interim t.request.parts) _ (reply_some t.answer.reply (head_only t.request.parts) (closes t))
-
-talk_some : (t : Turn) → talk t ≢ []
-talk_some t = some_before (opening t) (content t.request.parts t.answer) (opening_some t)
 
 -- ---- a request that was denied
 
@@ -173,11 +163,11 @@ module _ (failed : Type 0) (t : Turn) (a b : Line) (mid : Option (List ℕ)) (is
 
   pub answered_behind : {B : Type 0} (step : Step B) → ConcludesSo failed t.request.parts t.answer mid b.written step → Behind failed t.request.parts a b t.holds step
   answered_behind {B} steps.Next h = goes_turn B h.0 (all_said h.1)
-  answered_behind (steps.Ended ends.Done) h = ends_turn ends.Done h.0 tt (λ _. tt) (all_said h.1)
+  answered_behind (steps.Ended ends.Done) h = ends_turn ends.Done (h.0, h.1) tt (λ _. tt) (all_said h.2)
   answered_behind (steps.Ended (ends.Refused n)) h = absurd h
   answered_behind (steps.Ended ends.Cut) h = absurd h
   answered_behind (steps.Ended ends.SourceFault) h = absurd h
-  answered_behind (steps.Ended ends.SinkFault) h = ends_turn ends.SinkFault (talk_some t) tt (λ _. tt) (front_said h)
+  answered_behind (steps.Ended ends.SinkFault) h = ends_turn ends.SinkFault h.0 tt (λ _. tt) (front_said h.1)
   answered_behind (steps.Ended (ends.BlobFault blob)) h = ends_turn (ends.BlobFault blob) (h.0, h.1) tt (λ _. tt) (off_said h.2)
   answered_behind (steps.Ended ends.Long) h = absurd h
   answered_behind (steps.Ended ends.NoMemory) h = ends_turn ends.NoMemory tt tt (λ _. tt) (record { said = interim t.request.parts; before = refl; mid = mid; took = said; reply = h })
@@ -213,11 +203,11 @@ refused_by x reply only text is e = some_behind x (wire reply only true) (reply_
 refused_some : (b : Begun) (n : ℕ) → text_of (refused b n) ≢ []
 refused_some b n = refused_by (interim b.parts) (refusal n) (head_only b.parts) (text_of (refused b n)) refl
 
-module _ (failed : Type 0) (b : Begun) (from to : Line) where
+module _ (failed : Type 0) (b : Begun) (from to : Line) (may : MaySendBody b.parts) where
   ends_refused : {B : Type 0} (n : ℕ) (ended : Ended B) → EndsWith ended (refused b n) → LeavesNothing ended (refused b n) to.left → ((old : List ℕ) → EndsOnBehind ended (refused b n) old)
       → Wrote failed ended from.written to.written (refused b n) → OnStream from.bytes to.bytes (TookBehind b.parts (refused b n)) → Behind failed b.parts from to [] (steps.Ended ended)
   ends_refused n ended so over on wrote read =
-      (refused b n, refl, record { done = tt; ends = so; read = on_same from.bytes to.bytes read (λ x y r. (r, on x)); at_end = over; wrote = wrote })
+      (refused b n, refl, record { done = may; ends = so; read = on_same from.bytes to.bytes read (λ x y r. (r, on x)); at_end = over; wrote = wrote })
 
   refused_behind : {B : Type 0} (n : ℕ) (ended : Ended B) → RefusesWith n ended → Wrote failed ended from.written to.written (refused b n)
       → OnStream from.bytes to.bytes (TookBehind b.parts (refused b n)) → Behind failed b.parts from to [] (steps.Ended ended)
@@ -243,13 +233,13 @@ module _ (failed : Type 0) (b : Begun) (from to : Line) where
   broken_behind dropped.TooLong ended so wrote over read =
       refused_behind numbers.body_too_large ended so wrote (on_same from.bytes to.bytes read (λ x y r. (refl, inl (refl, r))))
   broken_behind dropped.Cut ended so wrote over read =
-      begun_behind ends.Cut ended so tt (over refl) wrote (on_same from.bytes to.bytes read (λ x y r. ((refl, r.0), r.1)))
+      begun_behind ends.Cut ended so may (over refl) wrote (on_same from.bytes to.bytes read (λ x y r. ((refl, r.0), r.1)))
   broken_behind dropped.Malformed ended so wrote over read =
       refused_behind numbers.not_a_request ended so wrote (on_same from.bytes to.bytes read (λ x y r. (refl, inr (refl, r))))
   broken_behind dropped.SourceFault ended so wrote over read =
-      begun_behind ends.SourceFault ended so tt tt wrote (on_same from.bytes to.bytes read (λ x y r. ((refl, r), tt)))
+      begun_behind ends.SourceFault ended so may tt wrote (on_same from.bytes to.bytes read (λ x y r. ((refl, r), tt)))
   broken_behind dropped.Long ended so wrote over read =
-      begun_behind ends.Long ended so tt tt wrote (on_same from.bytes to.bytes read (λ x y r. ((refl, r), tt)))
+      begun_behind ends.Long ended so may tt wrote (on_same from.bytes to.bytes read (λ x y r. ((refl, r), tt)))
   broken_behind dropped.NoMemory ended so wrote over read =
       begun_behind ends.NoMemory ended so tt tt wrote (on_same from.bytes to.bytes read (λ x y r. ((refl, r), tt)))
 
@@ -259,21 +249,22 @@ module _ (failed : Type 0) (b : Begun) (from to : Line) where
 pub said_nothing : (p : Parts) (written : Option (List ℕ)) → awaits p ≡ false → Appends written written (interim p)
 said_nothing p written quiet = subst (λ (t : List ℕ). Appends written written t) (sym (none_awaited p quiet)) (Appends-nil written)
 
-module _ {B : Type 0} (failed : Type 0) (p : Parts) (limit : Option ℕ) (a b : Line) (mid : Option (List ℕ)) (limited : limit ≡ limit_of p) (said : Appends a.written mid (interim p)) where
+module _ {B : Type 0} (failed : Type 0) (p : Parts) (limit : Option ℕ) (a b : Line) (mid : Option (List ℕ)) (limited : limit ≡ limit_of p)
+    (said : Appends a.written mid (interim p)) (may : MaySendBody p) where
   pub whole_behind : (holds : List Hold) (reply : Reply) (bytes : List ℕ) (step : Step B) → Replies (asked_in p) holds (record { reply = reply; content = bytes })
-      → (awaits p ≡ true → goes_on (asked_in p) ≡ true) → OnStream a.bytes b.bytes (Drops dropped.Whole limit (body_state p))
+      → OnStream a.bytes b.bytes (Drops dropped.Whole limit (body_state p))
       → ConcludesSo failed p (record { reply = reply; content = bytes }) mid b.written step → Behind failed p a b holds step
-  whole_behind holds reply bytes step replies told read so =
+  whole_behind holds reply bytes step replies read so =
       let body = whole_body (limit_of p) (body_state p) a.bytes b.bytes (subst (λ (l : Option ℕ). OnStream a.bytes b.bytes (Drops dropped.Whole l (body_state p))) limited read) in
       answered_behind failed (record { request = record { parts = p; body = body.0 }; holds = holds; answer = record { reply = reply; content = bytes } }) a b mid
-      (record { replies_so = replies; told = told }) body.1 said step so
+      (record { replies_so = replies; told = may }) body.1 said step so
 
   pub cut_behind : (d : Dropped) (ended : Ended B) → OnStream a.bytes b.bytes (Drops d limit (body_state p)) → BreaksWith d ended
       → ((begun : Begun) (start : Option (List ℕ)) → begun.parts ≡ p → Appends start mid (interim begun.parts) → Wrote failed ended start b.written (broken begun d))
       → (d ≡ dropped.Cut → IsAtEnd b.left) → Behind failed p a b [] (steps.Ended ended)
   cut_behind d ended read so wrote over =
       let front = front_body d (limit_of p) (body_state p) a.bytes b.bytes (subst (λ (l : Option ℕ). OnStream a.bytes b.bytes (Drops d l (body_state p))) limited read) in
-      broken_behind failed (record { parts = p; begin = front.0 }) a b d ended so (wrote (record { parts = p; begin = front.0 }) a.written refl said) over front.1
+      broken_behind failed (record { parts = p; begin = front.0 }) a b may d ended so (wrote (record { parts = p; begin = front.0 }) a.written refl said) over front.1
 
 -- ---- causes
 
@@ -336,7 +327,7 @@ broken_causes source source_now sink sink_now taken faults d ended so read long 
 pub known_replies : (p : Parts) (reply : Reply) (bytes : List ℕ) → Replies (asked_in p) [] (plain reply) → bytes ≡ [] → Replies (asked_in p) [] (record { reply = reply; content = bytes })
 known_replies p reply bytes replies none = subst (λ (c : List ℕ). Replies (asked_in p) [] (record { reply = reply; content = c })) (sym none) replies
 
-pub not_told : (p : Parts) → awaits p ≡ false → awaits p ≡ true → goes_on (asked_in p) ≡ true
+pub not_told : (p : Parts) → awaits p ≡ false → MaySendBody p
 not_told p quiet waits = absurd (false≢true (sym quiet ∙ waits))
 
 -- ---- an ask that is answered behind its body

@@ -65,9 +65,10 @@ abbrev pub ConcludesSo : {B : Type 0} → Type 0 → Parts → Answer → Option
 ConcludesSo failed p answer old new steps.Next =
     (closing p answer ≡ false) × Appends old new (reply_head p answer ++ content p answer)
 ConcludesSo failed p answer old new (steps.Ended ends.Done) =
-    (is_last p ≡ true) × Appends old new (reply_head p answer ++ content p answer)
+    (is_last p ≡ true) × (wants_memory answer.reply ≡ false)
+    × Appends old new (reply_head p answer ++ content p answer)
 ConcludesSo failed p answer old new (steps.Ended ends.SinkFault) =
-    TookFront old new (reply_head p answer ++ content p answer)
+    (wants_memory answer.reply ≡ false) × TookFront old new (reply_head p answer ++ content p answer)
 ConcludesSo failed p answer old new (steps.Ended (ends.BlobFault blob)) =
     IsBlob answer.reply × (head_only p ≡ false) × BreaksOff old new (reply_head p answer) (content p answer)
 ConcludesSo failed p answer old new (steps.Ended ends.NoMemory) = Tries failed old new (memory_wire (head_only p))

@@ -17,7 +17,7 @@ use Rattle.reg_session.specs.declared.ended.Ended.{Ended}
 use Rattle.reg_session.specs.declared.ended.Ended.TheVariants as ends
 use Rattle.reg_session.specs.Sending.{Tries, BreaksOff}
 use Rattle.reg_session.specs.Requests.{Parts, asked_in, head_only, is_last, awaits, limit_of, body_state, HasHead, ReadsRequest, ReadsFront}
-use Rattle.reg_session.specs.Turns.{Hold, Replies, goes_on, interim, Turn, IsTurn, content, opening, talk}
+use Rattle.reg_session.specs.Turns.{Hold, Replies, goes_on, MaySendBody, interim, Turn, IsTurn, wants_memory, content, opening, talk}
 
 -- a request whose head was read, and this front of its body
 pub record Begun : Type 0 where
@@ -79,6 +79,7 @@ pub record IsDenied (p : Parts) (reply : Reply) : Type 0 where
   pub replies_so : Replies (asked_in p) [] (plain reply)
 
 abbrev pub IsWork : Work → Type 0
+IsWork (refused b n) = MaySendBody b.parts
 IsWork (denied p reply) = IsDenied p reply
 IsWork (served t) = IsTurn t
 IsWork work = ⊤
@@ -119,14 +120,19 @@ number_of reply = 0
 -- no reply to the request was due yet
 abbrev pub IsUnanswered : Work → Type 0
 IsUnanswered idle = ⊤
-IsUnanswered (began b) = ⊤
+IsUnanswered (began b) = MaySendBody b.parts
 IsUnanswered work = ⊥
 
--- there was no request, or one that ended the connection
+-- there was no request, or one that ended the connection, and memory was not wanting for its answer
 abbrev pub IsDone : Work → Type 0
 IsDone idle = ⊤
-IsDone (served t) = is_last t.request.parts ≡ true
+IsDone (served t) = (is_last t.request.parts ≡ true) × (wants_memory t.answer.reply ≡ false)
 IsDone work = ⊥
+
+-- there was a text to write, and not because memory was wanting
+abbrev pub IsWriting : Work → Type 0
+IsWriting (served t) = wants_memory t.answer.reply ≡ false
+IsWriting work = text_of work ≢ []
 
 abbrev pub IsRefusedBy : ℕ → Work → Type 0
 IsRefusedBy n (turned_away m) = n ≡ m
@@ -145,7 +151,7 @@ EndsWith ends.Done work = IsDone work
 EndsWith (ends.Refused n) work = IsRefusedBy n work
 EndsWith ends.Cut work = IsUnanswered work
 EndsWith ends.SourceFault work = IsUnanswered work
-EndsWith ends.SinkFault work = text_of work ≢ []
+EndsWith ends.SinkFault work = IsWriting work
 EndsWith (ends.BlobFault blob) work = IsSendingBlob work
 EndsWith ends.Long work = IsUnanswered work
 EndsWith ends.NoMemory work = ⊤

@@ -19,13 +19,14 @@ returns-in-Whole-clause-behind g c =
     let p = parts_in c.args.head.now in
     let quiet = sym c.if-expects_continue.ensures in
     let said = c.conclude.ensures.concludes in
-    whole_behind (Rose (g.O.Sink.faults c.args.sink.now) (g.O.Sink.faults c.conclude.new.sink)) p c.args.limit _ _ (g.O.Sink.taken c.args.sink.now) c.requires.known.limited (said_nothing p _ quiet) [] c.args.reply.now said.bytes c.conclude.result
-    (known_replies p c.args.reply.now said.bytes c.requires.known.replies_so said.of_blob) (not_told p quiet) c.in-Whole.ensures.body said.so
+    whole_behind (Rose (g.O.Sink.faults c.args.sink.now) (g.O.Sink.faults c.conclude.new.sink)) p c.args.limit _ _ (g.O.Sink.taken c.args.sink.now) c.requires.known.limited (said_nothing p _ quiet) (not_told p quiet) [] c.args.reply.now said.bytes c.conclude.result
+    (known_replies p c.args.reply.now said.bytes c.requires.known.replies_so said.of_blob) c.in-Whole.ensures.body said.so
 
 pub returns-in_default-clause-behind : goal.returns-in_default-clause-behind
 returns-in_default-clause-behind g c =
     let p = parts_in c.args.head.now in
-    cut_behind (Rose (g.O.Sink.faults c.args.sink.now) (g.O.Sink.faults c.break_off.new.sink)) p c.args.limit _ _ (g.O.Sink.taken c.args.sink.now) c.requires.known.limited (said_nothing p _ (sym c.if-expects_continue.ensures)) c.drop_body.result c.break_off.result
+    let quiet = sym c.if-expects_continue.ensures in
+    cut_behind (Rose (g.O.Sink.faults c.args.sink.now) (g.O.Sink.faults c.break_off.new.sink)) p c.args.limit _ _ (g.O.Sink.taken c.args.sink.now) c.requires.known.limited (said_nothing p _ quiet) (not_told p quiet) c.drop_body.result c.break_off.result
     c.drop_body.ensures.body c.break_off.ensures.ends c.break_off.ensures.wrote c.drop_body.ensures.at_end
 
 pub returns-in_default-clause-causes : goal.returns-in_default-clause-causes

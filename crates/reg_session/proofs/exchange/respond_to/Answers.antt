@@ -37,8 +37,8 @@ returns-in-Whole-clause-responds g c =
     record {
       holds = decides.holds;
       chain = decides.chain;
-      behind = whole_behind since p _ _ _ (g.O.Sink.taken c.send_continue.new.sink) (ap Some c.limit_of.ensures ∙ ask_limits p c.args.ask.now c.requires.asked) said decides.holds c.decide-reply.result.0 all.bytes c.conclude.result
-          (ask_replies p c.args.ask.now decides.holds _ c.requires.asked decides.replies_so) (λ _. goes) c.in-Whole.ensures.body so;
+      behind = whole_behind since p _ _ _ (g.O.Sink.taken c.send_continue.new.sink) (ap Some c.limit_of.ensures ∙ ask_limits p c.args.ask.now c.requires.asked) said (λ _. goes) decides.holds c.decide-reply.result.0 all.bytes c.conclude.result
+          (ask_replies p c.args.ask.now decides.holds _ c.requires.asked decides.replies_so) c.in-Whole.ensures.body so;
     }
 
 pub returns-in_default-clause-responds : goal.returns-in_default-clause-responds
@@ -55,7 +55,7 @@ returns-in_default-clause-responds g c =
     record {
       holds = [];
       chain = λ next h. h;
-      behind = cut_behind since p _ _ _ (g.O.Sink.taken c.send_continue.new.sink) (ap Some c.limit_of.ensures ∙ ask_limits p c.args.ask.now c.requires.asked) said c.drop_body.result c.break_off.result
+      behind = cut_behind since p _ _ _ (g.O.Sink.taken c.send_continue.new.sink) (ap Some c.limit_of.ensures ∙ ask_limits p c.args.ask.now c.requires.asked) said (λ _. goes) c.drop_body.result c.break_off.result
           c.drop_body.ensures.body c.break_off.ensures.ends wrote c.drop_body.ensures.at_end;
     }
 
