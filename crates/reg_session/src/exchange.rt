@@ -13,7 +13,7 @@ ghost use Rattle.reg_session.specs.InnerSteps.{Advances, Behind, BreaksWith, bro
 use crate::bodies::{Dropped, drop_body};
 use crate::deciding::{decide, goes_on, limit_of};
 use crate::ended::{Ended, Step};
-use crate::holder::Turns;
+use crate::holder::Holder;
 use crate::replies::{conclude, is_head, no_memory, refusal, refuse, send_continue};
 use depot_api::{Blob, Depot, Sink, Source};
 use http_wire::{Feed, Head, Heading, expects_continue, read_head};
@@ -23,7 +23,7 @@ use reg_routes::{Unrouted, route};
 use std::alloc::Global;
 
 /// Reads one request, answers it, and writes the reply.
-pub(crate) fn exchange<D: Depot, K, P, H: Turns<D, K, P>, S: Source, O: Sink>(
+pub(crate) fn exchange<D: Depot, K, P, H: Holder<D, K, P>, S: Source, O: Sink>(
     alloc: Global,
     feed: &mut Feed,
     holder: &mut H,
@@ -58,7 +58,7 @@ where
 }
 
 // Answers a request whose head was read.
-fn respond<D: Depot, K, P, H: Turns<D, K, P>, S: Source, O: Sink>(
+fn respond<D: Depot, K, P, H: Holder<D, K, P>, S: Source, O: Sink>(
     alloc: Global,
     feed: &mut Feed,
     holder: &mut H,
@@ -126,7 +126,7 @@ fn deny<B: Blob + Drop, S: Source, O: Sink>(
 }
 
 // Answers an ask, behind the body of its request.
-fn respond_to<D: Depot, K, P, H: Turns<D, K, P>, S: Source, O: Sink>(
+fn respond_to<D: Depot, K, P, H: Holder<D, K, P>, S: Source, O: Sink>(
     alloc: Global,
     feed: &mut Feed,
     holder: &mut H,

@@ -6,7 +6,7 @@ ghost use Rattle.reg_session.specs.Sessions.{here, Session, Causes};
 
 use crate::ended::{Ended, Step};
 use crate::exchange::exchange;
-use crate::holder::{Lent, Nothing, Turns};
+use crate::holder::{Holder, Lent, Nothing};
 use crate::replies::no_memory;
 use depot_api::{Clock, Depot, Ids, Sink, Source};
 use http_wire::Feed;
@@ -15,7 +15,7 @@ use std::alloc::Global;
 
 /// Answers the requests of one connection, one after the other, until it ends. Each hold of the world is entered by
 /// `holder`.
-pub fn serve<D: Depot, K, P, H: Turns<D, K, P>, S: Source, O: Sink>(
+pub fn serve<D: Depot, K, P, H: Holder<D, K, P>, S: Source, O: Sink>(
     alloc: Global,
     holder: &mut H,
     pass: &P,
