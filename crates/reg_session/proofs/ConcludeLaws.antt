@@ -1,8 +1,9 @@
 -- Replies that were written, as far as sink and blob went.
-use Rattle.std.proofs.Common.{◌≡◌, ℕ, Bool, true, false, ◌||◌, if◌then◌else◌, List, [], ◌++◌, Option, Some, Result, Ok, Err, refl, sym, ap, subst, ◌∙◌, append_assoc, append-nil}
-use Rattle.std.specs.Prelude.{MatchResult, ⊤}
+use Rattle.std.proofs.Common.{◌≡◌, ℕ, ◌≤◌, ◌⊎◌, Bool, true, false, ◌||◌, if◌then◌else◌, List, [], ◌++◌, Option, Some, Result, Ok, Err, refl, sym, ap, subst, ◌∙◌, append_assoc, append-nil, inl, inr, arith}
+use Rattle.std.specs.Prelude.{MatchResult, IsErr, ⊤}
 use Rattle.std.specs.Io.KnownBytes.{Appends}
 use Rattle.std.proofs.KnownBytes.{Appends-trans}
+use Rattle.reg_names.specs.Cause.{Rose, HasCause}
 use Rattle.depot_api.specs.Blobs.{Rest}
 use Rattle.reg_entries.specs.declared.reply.Reply.{Reply}
 use Rattle.reg_model.specs.Answers.{Answer}
@@ -15,9 +16,9 @@ use Rattle.reg_session.specs.declared.ended.Step.{Step}
 use Rattle.reg_session.specs.declared.ended.Step.TheVariants as steps
 use Rattle.reg_session.specs.InnerReplies.{GoesOn, WritesAll, SendsAfter, IsWhole, closing, ConcludesSo, Concludes}
 use Rattle.reg_session.specs.Requests.{Parts, head_only, is_last}
-use Rattle.reg_session.specs.Sending.{BreaksOff}
+use Rattle.reg_session.specs.Sending.{Tries, BreaksOff}
 use Rattle.reg_session.specs.Turns.{wants_memory, content}
-use Rattle.reg_session.specs.Works.{Work, text_of, before_reply, is_head, Wrote}
+use Rattle.reg_session.specs.Works.{Work, idle, began, turned_away, refused, denied, served, text_of, before_reply, is_head, IsBefore, Wrote}
 
 -- ---- fronts
 
@@ -34,20 +35,70 @@ pub front_whole : (a b : Option (List ℕ)) (x : List ℕ) → Appends a b x →
 front_whole a b x took = record { front = x; rest = []; split = sym (append-nil x); took = took }
 
 -- what came of a write
-pub front_sent : {T E : Type 0} (a b : Option (List ℕ)) (x : List ℕ) (r : Result T E) → Sends a b x r → TookFront a b x
-front_sent a b x (Ok _) took = front_whole a b x took
-front_sent a b x (Err _) took = took
+pub tried : {T E : Type 0} (a b : Option (List ℕ)) (x : List ℕ) (before now : ℕ) (r : Result T E) → Sends a b x r
+    → HasCause before now (IsErr r) → Tries (Rose before now) a b x
+tried a b x before now (Ok _) took cause = inl took
+tried a b x before now (Err _) took cause = inr (cause.rose tt, took)
+
+-- ---- a sink that failed since then failed since earlier
+
+pub rose_before : (first before now : ℕ) → first ≤ before → Rose before now → Rose first now
+rose_before first before now later rose = omega (arith, later, rose)
+
+tries_before : (failed since : Type 0) (a b : Option (List ℕ)) (x : List ℕ) → (failed → since) → Tries failed a b x → Tries since a b x
+tries_before failed since a b x earlier (inl took) = inl took
+tries_before failed since a b x earlier (inr (is, took)) = inr (earlier is, took)
+
+pub wrote_before : {B : Type 0} (failed since : Type 0) (ended : Ended B) (old new : Option (List ℕ)) (work : Work) → (failed → since)
+    → Wrote failed ended old new work → Wrote since ended old new work
+wrote_before failed since ends.Done old new work earlier h = h
+wrote_before failed since (ends.Refused n) old new work earlier h = h
+wrote_before failed since ends.Cut old new work earlier h = h
+wrote_before failed since ends.SourceFault old new work earlier h = h
+wrote_before failed since ends.SinkFault old new work earlier h = h
+wrote_before failed since (ends.BlobFault blob) old new work earlier h = h
+wrote_before failed since ends.Long old new work earlier h = h
+wrote_before failed since ends.NoMemory old new work earlier h = record {
+  said = h.said;
+  before = h.before;
+  mid = h.mid;
+  took = h.took;
+  reply = tries_before failed since h.mid new (memory_wire (is_head work)) earlier h.reply;
+}
+
+pub concludes_before : {B : Type 0} (failed since : Type 0) (p : Parts) (answer : Answer) (old new : Option (List ℕ)) (step : Step B) → (failed → since)
+    → ConcludesSo failed p answer old new step → ConcludesSo since p answer old new step
+concludes_before failed since p answer old new steps.Next earlier h = h
+concludes_before failed since p answer old new (steps.Ended ends.Done) earlier h = h
+concludes_before failed since p answer old new (steps.Ended (ends.Refused n)) earlier h = h
+concludes_before failed since p answer old new (steps.Ended ends.Cut) earlier h = h
+concludes_before failed since p answer old new (steps.Ended ends.SourceFault) earlier h = h
+concludes_before failed since p answer old new (steps.Ended ends.SinkFault) earlier h = h
+concludes_before failed since p answer old new (steps.Ended (ends.BlobFault blob)) earlier h = h
+concludes_before failed since p answer old new (steps.Ended ends.Long) earlier h = h
+concludes_before failed since p answer old new (steps.Ended ends.NoMemory) earlier h = tries_before failed since old new (memory_wire (head_only p)) earlier h
 
 -- ---- refusals, behind what comes before them
 
-pub refuses_memory : {B : Type 0} (only : Bool) (old new : Option (List ℕ)) (ended : Ended B) → ended ≡ ends.NoMemory → TookFront old new (memory_wire only) → (work : Work) (start : Option (List ℕ)) → Appends start old (before_reply work) → is_head work ≡ only → Wrote ended start new work
-refuses_memory {B} only old new ended is took work start before head =
-    let all : Wrote {B = B} ends.NoMemory start new work = record {
+all_before : (work : Work) → IsBefore work (before_reply work)
+all_before idle = refl
+all_before (began b) = inl refl
+all_before (turned_away n) = refl
+all_before (refused b n) = refl
+all_before (denied p reply) = refl
+all_before (served t) = refl
+
+pub refuses_memory : {B : Type 0} (failed : Type 0) (only : Bool) (old new : Option (List ℕ)) (ended : Ended B) → ended ≡ ends.NoMemory → Tries failed old new (memory_wire only)
+    → (work : Work) (start : Option (List ℕ)) → Appends start old (before_reply work) → is_head work ≡ only → Wrote failed ended start new work
+refuses_memory {B} failed only old new ended is took work start before head =
+    let all : Wrote {B = B} failed ends.NoMemory start new work = record {
+      said = before_reply work;
+      before = all_before work;
       mid = old;
-      before = front_whole start old (before_reply work) before;
-      reply = subst (λ (b : Bool). TookFront old new (memory_wire b)) (sym head) took;
+      took = before;
+      reply = subst (λ (b : Bool). Tries failed old new (memory_wire b)) (sym head) took;
     } in
-    subst (λ (e : Ended B). Wrote e start new work) (sym is) all
+    subst (λ (e : Ended B). Wrote failed e start new work) (sym is) all
 
 pub refuses_whole : (text : List ℕ) (old new : Option (List ℕ)) → Appends old new text → (work : Work) (start : Option (List ℕ)) → Appends start old (before_reply work) → text_of work ≡ before_reply work ++ text → Appends start new (text_of work)
 refuses_whole text old new took work start before is =
@@ -110,20 +161,21 @@ breaks_only p reply (steps.Ended (ends.BlobFault blob)) only is of_blob whole = 
 breaks_only p reply (steps.Ended ends.Long) only is of_blob whole = tt
 breaks_only p reply (steps.Ended ends.NoMemory) only is of_blob whole = tt
 
-so_written : {B : Type 0} (p : Parts) (answer : Answer) (old new : Option (List ℕ)) (step : Step B) → closing p answer ≡ is_last p → WritesAll (is_last p) (wire answer.reply (head_only p) (is_last p)) (content p answer) old new step → BreaksOnlyIn p answer.reply step → ConcludesSo p answer old new step
-so_written p answer old new steps.Next is w breaks =
+so_written : {B : Type 0} (failed : Type 0) (p : Parts) (answer : Answer) (old new : Option (List ℕ)) (step : Step B) → wants_memory answer.reply ≡ false → closing p answer ≡ is_last p
+    → WritesAll (is_last p) (wire answer.reply (head_only p) (is_last p)) (content p answer) old new step → BreaksOnlyIn p answer.reply step → ConcludesSo failed p answer old new step
+so_written failed p answer old new steps.Next plain is w breaks =
     (is ∙ w.0, subst (λ (b : Bool). Appends old new (wire answer.reply (head_only p) b ++ content p answer)) (sym is) w.1)
-so_written p answer old new (steps.Ended ends.Done) is w breaks =
-    (w.0, subst (λ (b : Bool). Appends old new (wire answer.reply (head_only p) b ++ content p answer)) (sym is) w.1)
-so_written p answer old new (steps.Ended (ends.Refused n)) is w breaks = absurd w
-so_written p answer old new (steps.Ended ends.Cut) is w breaks = absurd w
-so_written p answer old new (steps.Ended ends.SourceFault) is w breaks = absurd w
-so_written p answer old new (steps.Ended ends.SinkFault) is w breaks =
-    subst (λ (b : Bool). TookFront old new (wire answer.reply (head_only p) b ++ content p answer)) (sym is) w
-so_written p answer old new (steps.Ended (ends.BlobFault blob)) is w breaks =
+so_written failed p answer old new (steps.Ended ends.Done) plain is w breaks =
+    (w.0, plain, subst (λ (b : Bool). Appends old new (wire answer.reply (head_only p) b ++ content p answer)) (sym is) w.1)
+so_written failed p answer old new (steps.Ended (ends.Refused n)) plain is w breaks = absurd w
+so_written failed p answer old new (steps.Ended ends.Cut) plain is w breaks = absurd w
+so_written failed p answer old new (steps.Ended ends.SourceFault) plain is w breaks = absurd w
+so_written failed p answer old new (steps.Ended ends.SinkFault) plain is w breaks =
+    (plain, subst (λ (b : Bool). TookFront old new (wire answer.reply (head_only p) b ++ content p answer)) (sym is) w)
+so_written failed p answer old new (steps.Ended (ends.BlobFault blob)) plain is w breaks =
     (breaks.0, breaks.1, subst (λ (b : Bool). BreaksOff old new (wire answer.reply (head_only p) b) (content p answer)) (sym is) w)
-so_written p answer old new (steps.Ended ends.Long) is w breaks = absurd w
-so_written p answer old new (steps.Ended ends.NoMemory) is w breaks = absurd w
+so_written failed p answer old new (steps.Ended ends.Long) plain is w breaks = absurd w
+so_written failed p answer old new (steps.Ended ends.NoMemory) plain is w breaks = absurd w
 
 -- the head that was written is that of the reply to the request
 pub record IsHeadOf (p : Parts) (reply : Reply) (only last : Bool) (text : List ℕ) : Type 0 where
@@ -138,11 +190,11 @@ of_reply p reply only last text bytes old new step is w =
     let only_so = subst (λ (o : Bool). WritesAll last (wire reply o last) (if o then [] else bytes) old new step) is.only_is head in
     subst (λ (l : Bool). WritesAll l (wire reply (head_only p) l) (if head_only p then [] else bytes) old new step) is.last_is only_so
 
-pub blob_concludes : {B : Type 0} (rest : B → Rest) (p : Parts) (reply : Reply) (blob : B) (only last : Bool) (text : List ℕ) (old new : Option (List ℕ)) (step : Step B) → IsHeadOf p reply only last text → IsBlob reply → SendsAfter (rest blob) only last text old new step → (only ≡ true → IsWhole step) → Concludes rest p reply (Some blob) old new step
-blob_concludes rest p reply blob only last text old new step is of_blob h whole = record {
+pub blob_concludes : {B : Type 0} (rest : B → Rest) (failed : Type 0) (p : Parts) (reply : Reply) (blob : B) (only last : Bool) (text : List ℕ) (old new : Option (List ℕ)) (step : Step B) → IsHeadOf p reply only last text → IsBlob reply → SendsAfter (rest blob) only last text old new step → (only ≡ true → IsWhole step) → Concludes rest failed p reply (Some blob) old new step
+blob_concludes rest failed p reply blob only last text old new step is of_blob h whole = record {
   bytes = h.bytes;
   of_blob = h.of_blob;
-  so = so_written p (record { reply = reply; content = h.bytes }) old new step (or_false (is_last p) (wants_memory reply) is.plain)
+  so = so_written failed p (record { reply = reply; content = h.bytes }) old new step is.plain (or_false (is_last p) (wants_memory reply) is.plain)
       (of_reply p reply only last text h.bytes old new step is h.writes)
       (breaks_only p reply step only is.only_is of_blob whole);
 }

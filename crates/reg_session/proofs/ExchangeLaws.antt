@@ -17,16 +17,17 @@ use Rattle.http_wire.proofs.StreamLaws.{on_then, on_same}
 use Rattle.reg_entries.specs.declared.reply.Reply.{Reply}
 use Rattle.reg_model.specs.Answers.{refusal}
 use Rattle.reg_replies.specs.Replies.{wire}
-use Rattle.reg_replies.specs.Writing.{TookFront, memory_wire}
+use Rattle.reg_replies.specs.Writing.{memory_wire}
 use Rattle.reg_world.specs.Worlds.{Data}
 use Rattle.reg_session.specs.declared.ended.Ended.{Ended}
 use Rattle.reg_session.specs.declared.ended.Ended.TheVariants as ends
 use Rattle.reg_session.specs.declared.ended.Step.{Step}
 use Rattle.reg_session.specs.declared.ended.Step.TheVariants as steps
 use Rattle.reg_session.specs.Requests.{Parts, parts_of, parts_in, head_only, limit_of, body_state, HasHead, ReadsFront}
+use Rattle.reg_session.specs.Sending.{Tries}
 use Rattle.reg_session.specs.Sessions.{here}
 use Rattle.reg_session.specs.Turns.{Hold, Chain}
-use Rattle.reg_session.specs.Works.{Begun, Work, idle, began, turned_away, refused, denied, served, number_of, text_of, Took, EndsWith, EndsOn, EndsBetween, EndsInside, LeavesNothing, WroteMemory, Wrote, before_reply, is_head}
+use Rattle.reg_session.specs.Works.{Begun, Work, idle, began, turned_away, refused, denied, served, number_of, text_of, Took, EndsWith, EndsOn, EndsBetween, EndsInside, LeavesNothing, IsBefore, WroteMemory, Wrote, before_reply, is_head}
 use Rattle.reg_session.specs.InnerReplies.{RefusesWith, IfStepBlob}
 use Rattle.reg_session.specs.InnerSteps.{Exchanges, line, TookBehind, IsCutBehind, EndsOnBehind, Behind, Responds, StepCauses, Advances}
 
@@ -80,11 +81,11 @@ ends_head ends.Long p work x y z head took on = tt
 ends_head ends.NoMemory p work x y z head took on = tt
 
 -- a request whose head was read
-pub headed : {B : Type 0} (between : Data → Data → Type 0) (head : Head) (w v : Data) (a b c left mid last start new : Option (List ℕ))
+pub headed : {B : Type 0} (between : Data → Data → Type 0) (failed : Type 0) (head : Head) (w v : Data) (a b c left mid last start new : Option (List ℕ))
     (step : Step B) → OnStream a b (TellsHead (headings.Head head))
-    → Responds between (parts_in head) w v (line b mid start) (line c last new) step
-    → Exchanges between (here w a left start) (here v c last new) step
-headed between head w v a b c left mid last start new steps.Next tells responds =
+    → Responds between failed (parts_in head) w v (line b mid start) (line c last new) step
+    → Exchanges between failed (here w a left start) (here v c last new) step
+headed between failed head w v a b c left mid last start new steps.Next tells responds =
     let (t, same, one) = responds.behind in (
       t,
       record {
@@ -94,7 +95,7 @@ headed between head w v a b c left mid last start new steps.Next tells responds 
         wrote = one.wrote;
       },
     )
-headed between head w v a b c left mid last start new (steps.Ended ended) tells responds =
+headed between failed head w v a b c left mid last start new (steps.Ended ended) tells responds =
     let (work, same, end) = responds.behind in (
       work,
       record {
@@ -164,12 +165,12 @@ turned_left n (ends.BlobFault blob) left h = tt
 turned_left n ends.Long left h = tt
 turned_left n ends.NoMemory left h = tt
 
-pub turned : {B : Type 0} (between : Data → Data → Type 0) (n : ℕ) (reply : Reply) (w : Data) (a b left last start new : Option (List ℕ)) (ended : Ended B)
+pub turned : {B : Type 0} (between : Data → Data → Type 0) (failed : Type 0) (n : ℕ) (reply : Reply) (w : Data) (a b left last start new : Option (List ℕ)) (ended : Ended B)
     → reply ≡ refusal n → OnStream a b (TellsHead (headings.Bad n)) → RefusesWith (number_of reply) ended
     → ((work : Work) (begin : Option (List ℕ)) → Appends begin start (before_reply work)
-    → text_of work ≡ before_reply work ++ wire reply false true → is_head work ≡ false → Wrote ended begin new work)
-    → Exchanges between (here w a left start) (here w b last new) (steps.Ended ended)
-turned between n reply w a b left last start new ended is tells refuses wrote =
+    → text_of work ≡ before_reply work ++ wire reply false true → is_head work ≡ false → Wrote failed ended begin new work)
+    → Exchanges between failed (here w a left start) (here w b last new) (steps.Ended ended)
+turned between failed n reply w a b left last start new ended is tells refuses wrote =
     let so : RefusesWith n ended = subst (λ (r : Reply). RefusesWith (number_of r) ended) is refuses in (
       turned_away n,
       record {
@@ -229,11 +230,11 @@ turned_causes n source source_now sink sink_now taken faults ended refuses later
 
 -- ---- no request was in work
 
-pub ended_idle : {B : Type 0} (between : Data → Data → Type 0) (heading : Heading) (w : Data) (a b left last start new : Option (List ℕ)) (ended : Ended B)
+pub ended_idle : {B : Type 0} (between : Data → Data → Type 0) (failed : Type 0) (heading : Heading) (w : Data) (a b left last start new : Option (List ℕ)) (ended : Ended B)
     → OnStream a b (TellsHead heading) → ((x y : List ℕ) → TellsHead heading x y → (y ≡ x) × EndsOn ended idle x)
-    → EndsWith ended idle → LeavesNothing ended idle last → Wrote ended start new idle
-    → Exchanges between (here w a left start) (here w b last new) (steps.Ended ended)
-ended_idle between heading w a b left last start new ended tells on with_idle over wrote = (
+    → EndsWith ended idle → LeavesNothing ended idle last → Wrote failed ended start new idle
+    → Exchanges between failed (here w a left start) (here w b last new) (steps.Ended ended)
+ended_idle between failed heading w a b left last start new ended tells on with_idle over wrote = (
   idle,
   record {
     done = tt;
@@ -245,20 +246,23 @@ ended_idle between heading w a b left last start new ended tells on with_idle ov
   },
 )
 
-wants : (work : Work) (start new : Option (List ℕ)) (only : Bool) → only ≡ is_head work → TookFront start new (memory_wire only)
-    → WroteMemory start new work
-wants work start new only is took = record {
+-- nothing was written before
+wants : (failed : Type 0) (work : Work) (start new : Option (List ℕ)) (only : Bool) → only ≡ is_head work → IsBefore work [] → Tries failed start new (memory_wire only)
+    → WroteMemory failed start new work
+wants failed work start new only is silent took = record {
+  said = [];
+  before = silent;
   mid = start;
-  before = record { front = []; rest = before_reply work; split = refl; took = Appends-nil start };
-  reply = subst (λ (o : Bool). TookFront start new (memory_wire o)) is took;
+  took = Appends-nil start;
+  reply = subst (λ (o : Bool). Tries failed start new (memory_wire o)) is took;
 }
 
-pub idle_wanting : {B : Type 0} (between : Data → Data → Type 0) (w : Data) (a b left last start new : Option (List ℕ)) (ended : Ended B)
-    → ended ≡ ends.NoMemory → OnStream a b (TellsHead headings.NoMemory) → TookFront start new (memory_wire false)
-    → Exchanges between (here w a left start) (here w b last new) (steps.Ended ended)
-idle_wanting {B} between w a b left last start new ended is tells took =
-    subst (λ (e : Ended B). Exchanges between (here w a left start) (here w b last new) (steps.Ended e)) (sym is)
-    (ended_idle between headings.NoMemory w a b left last start new ends.NoMemory tells (λ x y t. (t, tt)) tt tt (wants idle start new false refl took))
+pub idle_wanting : {B : Type 0} (between : Data → Data → Type 0) (failed : Type 0) (w : Data) (a b left last start new : Option (List ℕ)) (ended : Ended B)
+    → ended ≡ ends.NoMemory → OnStream a b (TellsHead headings.NoMemory) → Tries failed start new (memory_wire false)
+    → Exchanges between failed (here w a left start) (here w b last new) (steps.Ended ended)
+idle_wanting {B} between failed w a b left last start new ended is tells took =
+    subst (λ (e : Ended B). Exchanges between failed (here w a left start) (here w b last new) (steps.Ended e)) (sym is)
+    (ended_idle between failed headings.NoMemory w a b left last start new ends.NoMemory tells (λ x y t. (t, tt)) tt tt (wants failed idle start new false refl refl took))
 
 -- ---- memory was wanting once a head was read
 
@@ -270,12 +274,12 @@ just_begun : (p : Parts) (a : Option (List ℕ)) → OnStream a a (λ x y. TookB
 just_begun p None = tt
 just_begun p (Some x) = ((refl, front_none (limit_of p) (body_state p) x), tt)
 
-pub begun_wanting : {B : Type 0} (between : Data → Data → Type 0) (p : Parts) (w : Data) (a left start new : Option (List ℕ)) (only : Bool) (ended : Ended B)
-    → ended ≡ ends.NoMemory → only ≡ head_only p → TookFront start new (memory_wire only)
-    → Responds between p w w (line a left start) (line a left new) (steps.Ended ended)
-begun_wanting {B} between p w a left start new only ended is head took =
+pub begun_wanting : {B : Type 0} (between : Data → Data → Type 0) (failed : Type 0) (p : Parts) (w : Data) (a left start new : Option (List ℕ)) (only : Bool) (ended : Ended B)
+    → ended ≡ ends.NoMemory → only ≡ head_only p → Tries failed start new (memory_wire only)
+    → Responds between failed p w w (line a left start) (line a left new) (steps.Ended ended)
+begun_wanting {B} between failed p w a left start new only ended is head took =
     let b : Begun = record { parts = p; begin = [] } in
-    let at : Behind {B = B} p (line a left start) (line a left new) [] (steps.Ended ends.NoMemory) = (
+    let at : Behind {B = B} failed p (line a left start) (line a left new) [] (steps.Ended ends.NoMemory) = (
       began b,
       refl,
       record {
@@ -283,11 +287,11 @@ begun_wanting {B} between p w a left start new only ended is head took =
         ends = tt;
         read = just_begun p a;
         at_end = tt;
-        wrote = wants (began b) start new only head took;
+        wrote = wants failed (began b) start new only head (inr (refl, refl)) took;
       },
     ) in
     record {
       holds = [];
       chain = λ next x. x;
-      behind = subst (λ (e : Ended B). Behind p (line a left start) (line a left new) [] (steps.Ended e)) (sym is) at;
+      behind = subst (λ (e : Ended B). Behind failed p (line a left start) (line a left new) [] (steps.Ended e)) (sym is) at;
     }

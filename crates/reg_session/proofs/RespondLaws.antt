@@ -29,9 +29,9 @@ use Rattle.reg_session.specs.InnerReplies.{line_for, IfStepBlob, RefusesWith, re
 use Rattle.reg_session.specs.InnerSteps.{Line, line, TookBehind, EndsOnBehind, Behind, BreaksWith, broken, StepCauses}
 use Rattle.reg_session.specs.Requests.{Parts, asked_in, awaits, body_state, head_only, limit_by, limit_of, limit_of_ask, ReadsFront}
 use Rattle.reg_session.specs.Sending.{BreaksOff}
-use Rattle.reg_session.specs.Turns.{Hold, Replies, continue_line, goes_on, goes_on_for, interim, Turn, IsTurn, closes, content, opening, talk}
+use Rattle.reg_session.specs.Turns.{Hold, Replies, continue_line, goes_on, goes_on_for, MaySendBody, interim, Turn, IsTurn, closes, content, opening, talk}
 use Rattle.reg_session.specs.Works.{Begun, began, refused, denied, served, text_of, before_reply, is_head, IsDenied, EndsWith, LeavesNothing, Wrote, number_of}
-use Rattle.reg_session.proofs.ConcludeLaws.{front_behind, front_whole}
+use Rattle.reg_session.proofs.ConcludeLaws.{front_behind}
 
 -- ---- the interim reply
 
@@ -79,32 +79,22 @@ some_behind : (x y : List ℕ) → y ≢ [] → x ++ y ≢ []
 some_behind [] y some e = some e
 some_behind (b ∷ x) y some e = cc e
 
-some_before : (x y : List ℕ) → x ≢ [] → x ++ y ≢ []
-some_before [] y some e = some refl
-some_before (b ∷ x) y some e = cc e
-
 first_some : (b : ℕ) (x : List ℕ) → b ∷ x ≢ []
 first_some b x e = cc e
 
 reply_some : (reply : Reply) (only close : Bool) → wire reply only close ≢ []
 reply_some reply only close = first_some 72 _
 
-opening_some : (t : Turn) → opening t ≢ []
-opening_some t = some_behind (interim t.request.parts) _ (reply_some t.answer.reply (head_only t.request.parts) (closes t))
-
-talk_some : (t : Turn) → talk t ≢ []
-talk_some t = some_before (opening t) (content t.request.parts t.answer) (opening_some t)
-
 -- ---- a request that was denied
 
-module _ {B : Type 0} (p : Parts) (reply : Reply) (stream left before now : Option (List ℕ)) (is : IsDenied p reply) where
+module _ {B : Type 0} (failed : Type 0) (p : Parts) (reply : Reply) (stream left before now : Option (List ℕ)) (is : IsDenied p reply) where
   took_denied : (ended : Ended B) (s : Option (List ℕ)) → ((bytes : List ℕ) → EndsOnBehind ended (denied p reply) bytes)
       → OnStream s s (λ bytes rest. TookBehind p (denied p reply) bytes rest × EndsOnBehind ended (denied p reply) bytes)
   took_denied ended None on = tt
   took_denied ended (Some bytes) on = ((refl, refl), on bytes)
 
-  pub denied_behind : (ended : Ended B) → RefusesWith (number_of reply) ended → Wrote ended before now (denied p reply)
-      → Behind p (line stream left before) (line stream left now) [] (steps.Ended ended)
+  pub denied_behind : (ended : Ended B) → RefusesWith (number_of reply) ended → Wrote failed ended before now (denied p reply)
+      → Behind failed p (line stream left before) (line stream left now) [] (steps.Ended ended)
   denied_behind ends.Done ends_so wrote = absurd ends_so
   denied_behind (ends.Refused n) ends_so wrote =
       (denied p reply, refl, record { done = is; ends = ends_so; read = took_denied (ends.Refused n) stream (λ _. tt); at_end = tt; wrote = wrote })
@@ -151,15 +141,15 @@ opening_is t = refl
 pub talk_is : (t : Turn) → talk t ≡ (interim t.request.parts ++ reply_head t.request.parts t.answer) ++ content t.request.parts t.answer
 talk_is t = refl
 
-module _ (t : Turn) (a b : Line) (mid : Option (List ℕ)) (is : IsTurn t)
+module _ (failed : Type 0) (t : Turn) (a b : Line) (mid : Option (List ℕ)) (is : IsTurn t)
     (read : OnStream a.bytes b.bytes (λ old new. ReadsBody (limit_of t.request.parts) (body_state t.request.parts) old t.request.body (within (ends_before new))))
     (said : Appends a.written mid (interim t.request.parts)) where
   ends_turn : {B : Type 0} (ended : Ended B) → EndsWith ended (served t) → LeavesNothing ended (served t) b.left → ((old : List ℕ) → EndsOnBehind ended (served t) old)
-      → Wrote ended a.written b.written (served t) → Behind t.request.parts a b t.holds (steps.Ended ended)
+      → Wrote failed ended a.written b.written (served t) → Behind failed t.request.parts a b t.holds (steps.Ended ended)
   ends_turn ended so over on wrote =
       (served t, refl, record { done = is; ends = so; read = on_same a.bytes b.bytes read (λ x y r. ((refl, r), on x)); at_end = over; wrote = wrote })
 
-  goes_turn : (B : Type 0) → closes t ≡ false → Appends a.written b.written (talk t) → Behind {B = B} t.request.parts a b t.holds steps.Next
+  goes_turn : (B : Type 0) → closes t ≡ false → Appends a.written b.written (talk t) → Behind {B = B} failed t.request.parts a b t.holds steps.Next
   goes_turn B stays wrote = (t, refl, record { is = (is, stays); read = on_same a.bytes b.bytes read (λ x y r. (refl, r)); wrote = wrote })
 
   all_said : Appends mid b.written (reply_head t.request.parts t.answer ++ content t.request.parts t.answer) → Appends a.written b.written (talk t)
@@ -171,16 +161,16 @@ module _ (t : Turn) (a b : Line) (mid : Option (List ℕ)) (is : IsTurn t)
   off_said : BreaksOff mid b.written (reply_head t.request.parts t.answer) (content t.request.parts t.answer) → BreaksOff a.written b.written (opening t) (content t.request.parts t.answer)
   off_said off = three_off a.written mid b.written (interim t.request.parts) (reply_head t.request.parts t.answer) (content t.request.parts t.answer) said off
 
-  pub answered_behind : {B : Type 0} (step : Step B) → ConcludesSo t.request.parts t.answer mid b.written step → Behind t.request.parts a b t.holds step
+  pub answered_behind : {B : Type 0} (step : Step B) → ConcludesSo failed t.request.parts t.answer mid b.written step → Behind failed t.request.parts a b t.holds step
   answered_behind {B} steps.Next h = goes_turn B h.0 (all_said h.1)
-  answered_behind (steps.Ended ends.Done) h = ends_turn ends.Done h.0 tt (λ _. tt) (all_said h.1)
+  answered_behind (steps.Ended ends.Done) h = ends_turn ends.Done (h.0, h.1) tt (λ _. tt) (all_said h.2)
   answered_behind (steps.Ended (ends.Refused n)) h = absurd h
   answered_behind (steps.Ended ends.Cut) h = absurd h
   answered_behind (steps.Ended ends.SourceFault) h = absurd h
-  answered_behind (steps.Ended ends.SinkFault) h = ends_turn ends.SinkFault (talk_some t) tt (λ _. tt) (front_said h)
+  answered_behind (steps.Ended ends.SinkFault) h = ends_turn ends.SinkFault h.0 tt (λ _. tt) (front_said h.1)
   answered_behind (steps.Ended (ends.BlobFault blob)) h = ends_turn (ends.BlobFault blob) (h.0, h.1) tt (λ _. tt) (off_said h.2)
   answered_behind (steps.Ended ends.Long) h = absurd h
-  answered_behind (steps.Ended ends.NoMemory) h = ends_turn ends.NoMemory tt tt (λ _. tt) (record { mid = mid; before = front_whole a.written mid (interim t.request.parts) said; reply = h })
+  answered_behind (steps.Ended ends.NoMemory) h = ends_turn ends.NoMemory tt tt (λ _. tt) (record { said = interim t.request.parts; before = refl; mid = mid; took = said; reply = h })
 
 -- ---- a request whose body did not come whole
 
@@ -213,14 +203,14 @@ refused_by x reply only text is e = some_behind x (wire reply only true) (reply_
 refused_some : (b : Begun) (n : ℕ) → text_of (refused b n) ≢ []
 refused_some b n = refused_by (interim b.parts) (refusal n) (head_only b.parts) (text_of (refused b n)) refl
 
-module _ (b : Begun) (from to : Line) where
+module _ (failed : Type 0) (b : Begun) (from to : Line) (may : MaySendBody b.parts) where
   ends_refused : {B : Type 0} (n : ℕ) (ended : Ended B) → EndsWith ended (refused b n) → LeavesNothing ended (refused b n) to.left → ((old : List ℕ) → EndsOnBehind ended (refused b n) old)
-      → Wrote ended from.written to.written (refused b n) → OnStream from.bytes to.bytes (TookBehind b.parts (refused b n)) → Behind b.parts from to [] (steps.Ended ended)
+      → Wrote failed ended from.written to.written (refused b n) → OnStream from.bytes to.bytes (TookBehind b.parts (refused b n)) → Behind failed b.parts from to [] (steps.Ended ended)
   ends_refused n ended so over on wrote read =
-      (refused b n, refl, record { done = tt; ends = so; read = on_same from.bytes to.bytes read (λ x y r. (r, on x)); at_end = over; wrote = wrote })
+      (refused b n, refl, record { done = may; ends = so; read = on_same from.bytes to.bytes read (λ x y r. (r, on x)); at_end = over; wrote = wrote })
 
-  refused_behind : {B : Type 0} (n : ℕ) (ended : Ended B) → RefusesWith n ended → Wrote ended from.written to.written (refused b n)
-      → OnStream from.bytes to.bytes (TookBehind b.parts (refused b n)) → Behind b.parts from to [] (steps.Ended ended)
+  refused_behind : {B : Type 0} (n : ℕ) (ended : Ended B) → RefusesWith n ended → Wrote failed ended from.written to.written (refused b n)
+      → OnStream from.bytes to.bytes (TookBehind b.parts (refused b n)) → Behind failed b.parts from to [] (steps.Ended ended)
   refused_behind n ends.Done so wrote read = absurd so
   refused_behind n (ends.Refused m) so wrote read = ends_refused n (ends.Refused m) so tt (λ _. tt) wrote read
   refused_behind n ends.Cut so wrote read = absurd so
@@ -231,25 +221,25 @@ module _ (b : Begun) (from to : Line) where
   refused_behind n ends.NoMemory so wrote read = ends_refused n ends.NoMemory tt tt (λ _. tt) wrote read
 
   -- the session ended with the request begun
-  begun_behind : {B : Type 0} (ended told : Ended B) → told ≡ ended → EndsWith ended (began b) → LeavesNothing ended (began b) to.left → Wrote told from.written to.written (began b)
-      → OnStream from.bytes to.bytes (λ old new. TookBehind b.parts (began b) old new × EndsOnBehind ended (began b) old) → Behind b.parts from to [] (steps.Ended told)
+  begun_behind : {B : Type 0} (ended told : Ended B) → told ≡ ended → EndsWith ended (began b) → LeavesNothing ended (began b) to.left → Wrote failed told from.written to.written (began b)
+      → OnStream from.bytes to.bytes (λ old new. TookBehind b.parts (began b) old new × EndsOnBehind ended (began b) old) → Behind failed b.parts from to [] (steps.Ended told)
   begun_behind {B} ended told is so over wrote read =
-      subst (λ (e : Ended B). Behind b.parts from to [] (steps.Ended e)) (sym is)
-      (began b, refl, record { done = tt; ends = so; read = read; at_end = over; wrote = subst (λ (e : Ended B). Wrote e from.written to.written (began b)) is wrote })
+      subst (λ (e : Ended B). Behind failed b.parts from to [] (steps.Ended e)) (sym is)
+      (began b, refl, record { done = tt; ends = so; read = read; at_end = over; wrote = subst (λ (e : Ended B). Wrote failed e from.written to.written (began b)) is wrote })
 
-  pub broken_behind : {B : Type 0} (d : Dropped) (ended : Ended B) → BreaksWith d ended → Wrote ended from.written to.written (broken b d) → (d ≡ dropped.Cut → IsAtEnd to.left)
-      → OnStream from.bytes to.bytes (DropsFront d (limit_of b.parts) (body_state b.parts) b.begin) → Behind b.parts from to [] (steps.Ended ended)
+  pub broken_behind : {B : Type 0} (d : Dropped) (ended : Ended B) → BreaksWith d ended → Wrote failed ended from.written to.written (broken b d) → (d ≡ dropped.Cut → IsAtEnd to.left)
+      → OnStream from.bytes to.bytes (DropsFront d (limit_of b.parts) (body_state b.parts) b.begin) → Behind failed b.parts from to [] (steps.Ended ended)
   broken_behind dropped.Whole ended so wrote over read = absurd so
   broken_behind dropped.TooLong ended so wrote over read =
       refused_behind numbers.body_too_large ended so wrote (on_same from.bytes to.bytes read (λ x y r. (refl, inl (refl, r))))
   broken_behind dropped.Cut ended so wrote over read =
-      begun_behind ends.Cut ended so tt (over refl) wrote (on_same from.bytes to.bytes read (λ x y r. ((refl, r.0), r.1)))
+      begun_behind ends.Cut ended so may (over refl) wrote (on_same from.bytes to.bytes read (λ x y r. ((refl, r.0), r.1)))
   broken_behind dropped.Malformed ended so wrote over read =
       refused_behind numbers.not_a_request ended so wrote (on_same from.bytes to.bytes read (λ x y r. (refl, inr (refl, r))))
   broken_behind dropped.SourceFault ended so wrote over read =
-      begun_behind ends.SourceFault ended so tt tt wrote (on_same from.bytes to.bytes read (λ x y r. ((refl, r), tt)))
+      begun_behind ends.SourceFault ended so may tt wrote (on_same from.bytes to.bytes read (λ x y r. ((refl, r), tt)))
   broken_behind dropped.Long ended so wrote over read =
-      begun_behind ends.Long ended so tt tt wrote (on_same from.bytes to.bytes read (λ x y r. ((refl, r), tt)))
+      begun_behind ends.Long ended so may tt wrote (on_same from.bytes to.bytes read (λ x y r. ((refl, r), tt)))
   broken_behind dropped.NoMemory ended so wrote over read =
       begun_behind ends.NoMemory ended so tt tt wrote (on_same from.bytes to.bytes read (λ x y r. ((refl, r), tt)))
 
@@ -259,21 +249,22 @@ module _ (b : Begun) (from to : Line) where
 pub said_nothing : (p : Parts) (written : Option (List ℕ)) → awaits p ≡ false → Appends written written (interim p)
 said_nothing p written quiet = subst (λ (t : List ℕ). Appends written written t) (sym (none_awaited p quiet)) (Appends-nil written)
 
-module _ {B : Type 0} (p : Parts) (limit : Option ℕ) (a b : Line) (mid : Option (List ℕ)) (limited : limit ≡ limit_of p) (said : Appends a.written mid (interim p)) where
+module _ {B : Type 0} (failed : Type 0) (p : Parts) (limit : Option ℕ) (a b : Line) (mid : Option (List ℕ)) (limited : limit ≡ limit_of p)
+    (said : Appends a.written mid (interim p)) (may : MaySendBody p) where
   pub whole_behind : (holds : List Hold) (reply : Reply) (bytes : List ℕ) (step : Step B) → Replies (asked_in p) holds (record { reply = reply; content = bytes })
-      → (awaits p ≡ true → goes_on (asked_in p) ≡ true) → OnStream a.bytes b.bytes (Drops dropped.Whole limit (body_state p))
-      → ConcludesSo p (record { reply = reply; content = bytes }) mid b.written step → Behind p a b holds step
-  whole_behind holds reply bytes step replies told read so =
+      → OnStream a.bytes b.bytes (Drops dropped.Whole limit (body_state p))
+      → ConcludesSo failed p (record { reply = reply; content = bytes }) mid b.written step → Behind failed p a b holds step
+  whole_behind holds reply bytes step replies read so =
       let body = whole_body (limit_of p) (body_state p) a.bytes b.bytes (subst (λ (l : Option ℕ). OnStream a.bytes b.bytes (Drops dropped.Whole l (body_state p))) limited read) in
-      answered_behind (record { request = record { parts = p; body = body.0 }; holds = holds; answer = record { reply = reply; content = bytes } }) a b mid
-      (record { replies_so = replies; told = told }) body.1 said step so
+      answered_behind failed (record { request = record { parts = p; body = body.0 }; holds = holds; answer = record { reply = reply; content = bytes } }) a b mid
+      (record { replies_so = replies; told = may }) body.1 said step so
 
   pub cut_behind : (d : Dropped) (ended : Ended B) → OnStream a.bytes b.bytes (Drops d limit (body_state p)) → BreaksWith d ended
-      → ((begun : Begun) (start : Option (List ℕ)) → begun.parts ≡ p → Appends start mid (interim begun.parts) → Wrote ended start b.written (broken begun d))
-      → (d ≡ dropped.Cut → IsAtEnd b.left) → Behind p a b [] (steps.Ended ended)
+      → ((begun : Begun) (start : Option (List ℕ)) → begun.parts ≡ p → Appends start mid (interim begun.parts) → Wrote failed ended start b.written (broken begun d))
+      → (d ≡ dropped.Cut → IsAtEnd b.left) → Behind failed p a b [] (steps.Ended ended)
   cut_behind d ended read so wrote over =
       let front = front_body d (limit_of p) (body_state p) a.bytes b.bytes (subst (λ (l : Option ℕ). OnStream a.bytes b.bytes (Drops d l (body_state p))) limited read) in
-      broken_behind (record { parts = p; begin = front.0 }) a b d ended so (wrote (record { parts = p; begin = front.0 }) a.written refl said) over front.1
+      broken_behind failed (record { parts = p; begin = front.0 }) a b may d ended so (wrote (record { parts = p; begin = front.0 }) a.written refl said) over front.1
 
 -- ---- causes
 
@@ -336,7 +327,7 @@ broken_causes source source_now sink sink_now taken faults d ended so read long 
 pub known_replies : (p : Parts) (reply : Reply) (bytes : List ℕ) → Replies (asked_in p) [] (plain reply) → bytes ≡ [] → Replies (asked_in p) [] (record { reply = reply; content = bytes })
 known_replies p reply bytes replies none = subst (λ (c : List ℕ). Replies (asked_in p) [] (record { reply = reply; content = c })) (sym none) replies
 
-pub not_told : (p : Parts) → awaits p ≡ false → awaits p ≡ true → goes_on (asked_in p) ≡ true
+pub not_told : (p : Parts) → awaits p ≡ false → MaySendBody p
 not_told p quiet waits = absurd (false≢true (sym quiet ∙ waits))
 
 -- ---- an ask that is answered behind its body
@@ -353,9 +344,9 @@ awaited_some : (p : Parts) → awaits p ≡ true → goes_on (asked_in p) ≡ tr
 awaited_some p waits goes e = cc (ap (λ a. if a then continue_line else []) (sym waits) ∙ line_is_interim p goes ∙ e)
 
 -- the sink failed at the interim reply
-pub unsaid_behind : {B : Type 0} (p : Parts) (stream left old new : Option (List ℕ)) → awaits p ≡ true → goes_on (asked_in p) ≡ true → TookFront old new (line_for p)
-    → Behind {B = B} p (line stream left old) (line stream left new) [] (steps.Ended ends.SinkFault)
-unsaid_behind p stream left old new waits goes took = (
+pub unsaid_behind : {B : Type 0} (failed : Type 0) (p : Parts) (stream left old new : Option (List ℕ)) → awaits p ≡ true → goes_on (asked_in p) ≡ true → TookFront old new (line_for p)
+    → Behind {B = B} failed p (line stream left old) (line stream left new) [] (steps.Ended ends.SinkFault)
+unsaid_behind failed p stream left old new waits goes took = (
   began (record { parts = p; begin = [] }),
   refl,
   record {

@@ -7,7 +7,7 @@ use Rattle.std.proofs.KnownBytes.{Appends-nil, Appends-trans}
 use Rattle.http_wire.specs.Flow.{Flow, OnStream, Counts}
 use Rattle.http_wire.specs.Limits.{feed_limit}
 use Rattle.http_wire.proofs.StreamLaws.{on_then}
-use Rattle.reg_replies.specs.Writing.{TookFront, memory_wire}
+use Rattle.reg_replies.specs.Writing.{memory_wire}
 use Rattle.reg_world.specs.Worlds.{Data}
 use Rattle.reg_session.specs.declared.ended.Ended.{Ended}
 use Rattle.reg_session.specs.declared.ended.Ended.TheVariants as ends
@@ -15,10 +15,12 @@ use Rattle.reg_session.specs.declared.ended.Step.{Step}
 use Rattle.reg_session.specs.declared.ended.Step.TheVariants as steps
 use Rattle.reg_session.specs.Requests.{ReadsRequest, Reads}
 use Rattle.reg_session.specs.Turns.{Hold, Chain, Turn, talk}
-use Rattle.reg_session.specs.Works.{idle, Took, WroteMemory}
+use Rattle.reg_session.specs.Sending.{Tries}
+use Rattle.reg_session.specs.Works.{Work, idle, Took, WroteMemory}
 use Rattle.reg_session.specs.Sessions.{At, here, IsServed, Serves, EndsBy, IfBlobFault, GaveMany, Causes}
 use Rattle.reg_session.specs.InnerReplies.{IfStepBlob}
 use Rattle.reg_session.specs.InnerSteps.{ServesOne, StepCauses}
+use Rattle.reg_session.proofs.ConcludeLaws.{wrote_before}
 use Rattle.reg_session.proofs.ExchangeLaws.{later_than}
 
 -- ---- one more
@@ -115,29 +117,37 @@ session_causes {B} source mid_source source_now sink mid_sink sink_now given giv
       long = λ is. gave_many first last given given_now none counts (causes.long (ap step is));
     }
 
+-- a sink that failed since then failed since earlier
+pub ends_before : {B : Type 0} (between : Data → Data → Type 0) (failed since : Type 0) (old new : At) (ended : Ended B) (work : Work) → (failed → since)
+    → EndsBy between failed old new ended work → EndsBy between since old new ended work
+ends_before between failed since old new ended work earlier h = record {
+  done = h.done;
+  ends = h.ends;
+  holds = h.holds;
+  read = h.read;
+  at_end = h.at_end;
+  wrote = wrote_before failed since ended old.written new.written work earlier h.wrote;
+}
+
 -- ---- want of memory where no request is in work
 
 took_idle : (bytes : Option (List ℕ)) → OnStream bytes bytes (λ x y. Took idle x y × Unit {0})
 took_idle None = tt
 took_idle (Some x) = (refl, tt)
 
-wrote_idle : (start new : Option (List ℕ)) → TookFront start new (memory_wire false) → WroteMemory start new idle
-wrote_idle start new took = record {
-  mid = start;
-  before = record { front = []; rest = []; split = refl; took = Appends-nil start };
-  reply = took;
-}
+wrote_idle : (failed : Type 0) (start new : Option (List ℕ)) → Tries failed start new (memory_wire false) → WroteMemory failed start new idle
+wrote_idle failed start new took = record { said = []; before = refl; mid = start; took = Appends-nil start; reply = took }
 
-pub idle_wants : {B : Type 0} (between : Data → Data → Type 0) (w : Data) (bytes left start new : Option (List ℕ)) (ended : Ended B)
-    → ended ≡ ends.NoMemory → TookFront start new (memory_wire false)
-    → EndsBy between (here w bytes left start) (here w bytes left new) ended idle
-idle_wants {B} between w bytes left start new ended is took =
-    let at : EndsBy {B = B} between (here w bytes left start) (here w bytes left new) ends.NoMemory idle = record {
+pub idle_wants : {B : Type 0} (between : Data → Data → Type 0) (failed : Type 0) (w : Data) (bytes left start new : Option (List ℕ)) (ended : Ended B)
+    → ended ≡ ends.NoMemory → Tries failed start new (memory_wire false)
+    → EndsBy between failed (here w bytes left start) (here w bytes left new) ended idle
+idle_wants {B} between failed w bytes left start new ended is took =
+    let at : EndsBy {B = B} between failed (here w bytes left start) (here w bytes left new) ends.NoMemory idle = record {
       done = tt;
       ends = tt;
       holds = λ next x. x;
       read = took_idle bytes;
       at_end = tt;
-      wrote = wrote_idle start new took;
+      wrote = wrote_idle failed start new took;
     } in
-    subst (λ (e : Ended B). EndsBy between (here w bytes left start) (here w bytes left new) e idle) (sym is) at
+    subst (λ (e : Ended B). EndsBy between failed (here w bytes left start) (here w bytes left new) e idle) (sym is) at

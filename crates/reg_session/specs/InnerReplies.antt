@@ -14,7 +14,7 @@ use Rattle.reg_session.specs.declared.ended.Step.{Step}
 use Rattle.reg_session.specs.declared.ended.Step.TheVariants as steps
 use Rattle.reg_session.specs.Requests.{Parts, head_only, is_last, awaits}
 use Rattle.reg_session.specs.Turns.{wants_memory, content, continue_line}
-use Rattle.reg_session.specs.Sending.{BreaksOff}
+use Rattle.reg_session.specs.Sending.{Tries, BreaksOff}
 
 -- the interim reply for a request that waits for it
 abbrev pub line_for : Parts → List ℕ
@@ -61,26 +61,28 @@ abbrev pub reply_head : Parts → Answer → List ℕ
 reply_head p answer = wire answer.reply (head_only p) (closing p answer)
 
 -- all of it was written, and the session goes on, or ends; or a front of it was; or the reply for want of memory
-abbrev pub ConcludesSo : {B : Type 0} → Parts → Answer → Option (List ℕ) → Option (List ℕ) → Step B → Type 0
-ConcludesSo p answer old new steps.Next =
+abbrev pub ConcludesSo : {B : Type 0} → Type 0 → Parts → Answer → Option (List ℕ) → Option (List ℕ) → Step B → Type 0
+ConcludesSo failed p answer old new steps.Next =
     (closing p answer ≡ false) × Appends old new (reply_head p answer ++ content p answer)
-ConcludesSo p answer old new (steps.Ended ends.Done) =
-    (is_last p ≡ true) × Appends old new (reply_head p answer ++ content p answer)
-ConcludesSo p answer old new (steps.Ended ends.SinkFault) = TookFront old new (reply_head p answer ++ content p answer)
-ConcludesSo p answer old new (steps.Ended (ends.BlobFault blob)) =
+ConcludesSo failed p answer old new (steps.Ended ends.Done) =
+    (is_last p ≡ true) × (wants_memory answer.reply ≡ false)
+    × Appends old new (reply_head p answer ++ content p answer)
+ConcludesSo failed p answer old new (steps.Ended ends.SinkFault) =
+    (wants_memory answer.reply ≡ false) × TookFront old new (reply_head p answer ++ content p answer)
+ConcludesSo failed p answer old new (steps.Ended (ends.BlobFault blob)) =
     IsBlob answer.reply × (head_only p ≡ false) × BreaksOff old new (reply_head p answer) (content p answer)
-ConcludesSo p answer old new (steps.Ended ends.NoMemory) = TookFront old new (memory_wire (head_only p))
-ConcludesSo p answer old new step = ⊥
+ConcludesSo failed p answer old new (steps.Ended ends.NoMemory) = Tries failed old new (memory_wire (head_only p))
+ConcludesSo failed p answer old new step = ⊥
 
 -- some bytes are as many as a blob has left, if there is one
 abbrev pub LeavesSome : {B : Type 0} → (B → Rest) → Option B → Type 0
 LeavesSome rest blob = (bytes : List ℕ) × LeavesBytes rest blob bytes
 
-pub record Concludes {B : Type 0} (rest : B → Rest) (p : Parts) (reply : Reply) (blob : Option B)
+pub record Concludes {B : Type 0} (rest : B → Rest) (failed : Type 0) (p : Parts) (reply : Reply) (blob : Option B)
     (old new : Option (List ℕ)) (step : Step B) : Type 0 where
   pub bytes : List ℕ
   pub of_blob : LeavesBytes rest blob bytes
-  pub so : ConcludesSo p (record { reply = reply; content = bytes }) old new step
+  pub so : ConcludesSo failed p (record { reply = reply; content = bytes }) old new step
 
 -- ---- what a step says of a blob, and of the source
 

@@ -35,9 +35,9 @@ pub record ServesOne (between : Data → Data → Type 0) (old new : At) (t : Tu
   pub wrote : Appends old.written new.written (talk t)
 
 -- so it was, or the session ended with it
-abbrev pub Exchanges : {B : Type 0} → (Data → Data → Type 0) → At → At → Step B → Type 0
-Exchanges between old new steps.Next = (t : Turn) × ServesOne between old new t
-Exchanges between old new (steps.Ended ended) = (work : Work) × EndsBy between old new ended work
+abbrev pub Exchanges : {B : Type 0} → (Data → Data → Type 0) → Type 0 → At → At → Step B → Type 0
+Exchanges between failed old new steps.Next = (t : Turn) × ServesOne between old new t
+Exchanges between failed old new (steps.Ended ended) = (work : Work) × EndsBy between failed old new ended work
 
 -- ---- the same of a request whose head was read, and has these parts
 
@@ -82,24 +82,25 @@ pub record ServesBehind (p : Parts) (old new : Line) (t : Turn) : Type 0 where
   pub wrote : Appends old.written new.written (talk t)
 
 -- the session ended with it
-pub record EndsBehind {B : Type 0} (p : Parts) (old new : Line) (ended : Ended B) (work : Work) : Type 0 where
+pub record EndsBehind {B : Type 0} (failed : Type 0) (p : Parts) (old new : Line) (ended : Ended B) (work : Work)
+    : Type 0 where
   pub done : IsWork work
   pub ends : EndsWith ended work
   pub read : OnStream old.bytes new.bytes (λ bytes rest. TookBehind p work bytes rest × EndsOnBehind ended work bytes)
   pub at_end : LeavesNothing ended work new.left
-  pub wrote : Wrote ended old.written new.written work
+  pub wrote : Wrote failed ended old.written new.written work
 
 -- one or the other, with these holds
-abbrev pub Behind : {B : Type 0} → Parts → Line → Line → List Hold → Step B → Type 0
-Behind p old new holds steps.Next = (t : Turn) × (t.holds ≡ holds) × ServesBehind p old new t
-Behind p old new holds (steps.Ended ended) =
-    (work : Work) × (holds_of work ≡ holds) × EndsBehind p old new ended work
+abbrev pub Behind : {B : Type 0} → Type 0 → Parts → Line → Line → List Hold → Step B → Type 0
+Behind failed p old new holds steps.Next = (t : Turn) × (t.holds ≡ holds) × ServesBehind p old new t
+Behind failed p old new holds (steps.Ended ended) =
+    (work : Work) × (holds_of work ≡ holds) × EndsBehind failed p old new ended work
 
-pub record Responds {B : Type 0} (between : Data → Data → Type 0) (p : Parts) (old_world new_world : Data)
-    (old new : Line) (step : Step B) : Type 0 where
+pub record Responds {B : Type 0} (between : Data → Data → Type 0) (failed : Type 0) (p : Parts)
+    (old_world new_world : Data) (old new : Line) (step : Step B) : Type 0 where
   pub holds : List Hold
   pub chain : Chain between old_world holds new_world
-  pub behind : Behind p old new holds step
+  pub behind : Behind failed p old new holds step
 
 -- ---- answers
 

@@ -1,11 +1,15 @@
--- What a sink took of a blob.
-use Rattle.std.specs.Prelude.{◌≡◌, ◌≢◌, ℕ, List, [], ◌++◌, Option}
+-- What a sink took of a text, and of a blob.
+use Rattle.std.specs.Prelude.{◌≡◌, ◌≢◌, ℕ, ◌⊎◌, List, [], ◌++◌, Option}
 use Rattle.std.specs.Io.KnownBytes.{Appends}
 use Rattle.depot_api.specs.Blobs.{Rest}
 use Rattle.reg_model.specs.Blobs.{HasLeft}
 use Rattle.reg_replies.specs.Writing.{TookFront}
 use Rattle.reg_session.specs.declared.sending.Sent.{Sent}
 use Rattle.reg_session.specs.declared.sending.Sent.TheVariants.{Whole, BlobFault, SinkFault}
+
+-- all of a text was taken, or, where the sink failed, a front of it
+abbrev pub Tries : Type 0 → Option (List ℕ) → Option (List ℕ) → List ℕ → Type 0
+Tries failed old new text = Appends old new text ⊎ (failed × TookFront old new text)
 
 -- the front of a text and a front of what follows it, but not all of that
 pub record BreaksOff (old new : Option (List ℕ)) (head body : List ℕ) : Type 0 where

@@ -36,24 +36,25 @@ pub record Serves (between : Data → Data → Type 0) (old new : At) (turns : L
   -- and their replies were written
   pub wrote : Appends old.written new.written (flat_map talk turns)
 
--- the session ended with this work
-pub record EndsBy {B : Type 0} (between : Data → Data → Type 0) (old new : At) (ended : Ended B) (work : Work)
-    : Type 0 where
+-- the session ended with this work; that the sink failed excuses a reply for want of memory that was not written whole
+pub record EndsBy {B : Type 0} (between : Data → Data → Type 0) (failed : Type 0) (old new : At) (ended : Ended B)
+    (work : Work) : Type 0 where
   pub done : IsWork work
   pub ends : EndsWith ended work
   pub holds : Chain between old.world (holds_of work) new.world
   pub read : OnStream old.bytes new.bytes (λ bytes rest. Took work bytes rest × EndsOn ended work bytes)
   pub at_end : LeavesNothing ended work new.left
-  pub wrote : Wrote ended old.written new.written work
+  pub wrote : Wrote failed ended old.written new.written work
 
 -- a whole session, from a world and what its source has left: requests that were served, and the one in work at its end
-pub record Session {B : Type 0} (between : Data → Data → Type 0) (old new : At) (ended : Ended B) : Type 0 where
+pub record Session {B : Type 0} (between : Data → Data → Type 0) (failed : Type 0) (old new : At) (ended : Ended B)
+    : Type 0 where
   pub turns : List Turn
   pub work : Work
   pub mid : At
   pub rest : Option (List ℕ)
   pub serves : Serves between old mid turns
-  pub ends : EndsBy between mid (record new { bytes = rest }) ended work
+  pub ends : EndsBy between failed mid (record new { bytes = rest }) ended work
 
 -- ---- causes
 

@@ -75,6 +75,10 @@ abbrev pub goes_on : Asked → Bool
 goes_on (Ok ask) = goes_on_for ask
 goes_on (Err reply) = false
 
+-- its body may come: where the client waits to be told to go on, it is told, since else it is refused at once
+abbrev pub MaySendBody : Parts → Type 0
+MaySendBody p = awaits p ≡ true → goes_on (asked_in p) ≡ true
+
 -- the interim reply (RFC 9110, section 15.2.1)
 abbrev pub continue_line : List ℕ
 continue_line = codes "HTTP/1.1 100 Continue\r\n\r\n"
@@ -88,10 +92,10 @@ pub record Turn : Type 0 where
   pub holds : List Hold
   pub answer : Answer
 
--- its answer is that of its holds; one that waits was told to go on, since else it is refused at once
+-- its answer is that of its holds, behind its body
 pub record IsTurn (t : Turn) : Type 0 where
   pub replies_so : Replies (asked_in t.request.parts) t.holds t.answer
-  pub told : awaits t.request.parts ≡ true → goes_on (asked_in t.request.parts) ≡ true
+  pub told : MaySendBody t.request.parts
 
 abbrev pub wants_memory : Reply → Bool
 wants_memory (replies.Refused told) = told.number == numbers.no_memory

@@ -15,9 +15,9 @@ use Rattle.reg_replies.specs.Replies.{wire}
 use Rattle.reg_replies.specs.Writing.{TookFront, memory_wire}
 use Rattle.reg_session.specs.declared.ended.Ended.{Ended}
 use Rattle.reg_session.specs.declared.ended.Ended.TheVariants as ends
-use Rattle.reg_session.specs.Sending.{BreaksOff}
+use Rattle.reg_session.specs.Sending.{Tries, BreaksOff}
 use Rattle.reg_session.specs.Requests.{Parts, asked_in, head_only, is_last, awaits, limit_of, body_state, HasHead, ReadsRequest, ReadsFront}
-use Rattle.reg_session.specs.Turns.{Hold, Replies, goes_on, interim, Turn, IsTurn, content, opening, talk}
+use Rattle.reg_session.specs.Turns.{Hold, Replies, goes_on, MaySendBody, interim, Turn, IsTurn, wants_memory, content, opening, talk}
 
 -- a request whose head was read, and this front of its body
 pub record Begun : Type 0 where
@@ -79,6 +79,7 @@ pub record IsDenied (p : Parts) (reply : Reply) : Type 0 where
   pub replies_so : Replies (asked_in p) [] (plain reply)
 
 abbrev pub IsWork : Work → Type 0
+IsWork (refused b n) = MaySendBody b.parts
 IsWork (denied p reply) = IsDenied p reply
 IsWork (served t) = IsTurn t
 IsWork work = ⊤
@@ -119,14 +120,19 @@ number_of reply = 0
 -- no reply to the request was due yet
 abbrev pub IsUnanswered : Work → Type 0
 IsUnanswered idle = ⊤
-IsUnanswered (began b) = ⊤
+IsUnanswered (began b) = MaySendBody b.parts
 IsUnanswered work = ⊥
 
--- there was no request, or one that ended the connection
+-- there was no request, or one that ended the connection, and memory was not wanting for its answer
 abbrev pub IsDone : Work → Type 0
 IsDone idle = ⊤
-IsDone (served t) = is_last t.request.parts ≡ true
+IsDone (served t) = (is_last t.request.parts ≡ true) × (wants_memory t.answer.reply ≡ false)
 IsDone work = ⊥
+
+-- there was a text to write, and not because memory was wanting
+abbrev pub IsWriting : Work → Type 0
+IsWriting (served t) = wants_memory t.answer.reply ≡ false
+IsWriting work = text_of work ≢ []
 
 abbrev pub IsRefusedBy : ℕ → Work → Type 0
 IsRefusedBy n (turned_away m) = n ≡ m
@@ -145,7 +151,7 @@ EndsWith ends.Done work = IsDone work
 EndsWith (ends.Refused n) work = IsRefusedBy n work
 EndsWith ends.Cut work = IsUnanswered work
 EndsWith ends.SourceFault work = IsUnanswered work
-EndsWith ends.SinkFault work = text_of work ≢ []
+EndsWith ends.SinkFault work = IsWriting work
 EndsWith (ends.BlobFault blob) work = IsSendingBlob work
 EndsWith ends.Long work = IsUnanswered work
 EndsWith ends.NoMemory work = ⊤
@@ -179,15 +185,23 @@ abbrev pub BreaksInBlob : Option (List ℕ) → Option (List ℕ) → Work → T
 BreaksInBlob old new (served t) = BreaksOff old new (opening t) (content t.request.parts t.answer)
 BreaksInBlob old new work = ⊥
 
--- at most what comes before the reply, and at most the reply for want of memory
-pub record WroteMemory (old new : Option (List ℕ)) (work : Work) : Type 0 where
-  pub mid : Option (List ℕ)
-  pub before : TookFront old mid (before_reply work)
-  pub reply : TookFront mid new (memory_wire (is_head work))
+-- what was written before memory was wanting: all that comes before the reply, or nothing, where only the head was read
+abbrev pub IsBefore : Work → List ℕ → Type 0
+IsBefore (began b) said = (said ≡ interim b.parts) ⊎ ((said ≡ []) × (b.begin ≡ []))
+IsBefore work said = said ≡ before_reply work
 
--- All was written; where the sink failed, a front of it; where a blob failed, all up to a place inside the blob.
-abbrev pub Wrote : {B : Type 0} → Ended B → Option (List ℕ) → Option (List ℕ) → Work → Type 0
-Wrote ends.SinkFault old new work = TookFront old new (text_of work)
-Wrote (ends.BlobFault blob) old new work = BreaksInBlob old new work
-Wrote ends.NoMemory old new work = WroteMemory old new work
-Wrote ended old new work = Appends old new (text_of work)
+-- and behind it the reply for want of memory, as far as the sink went
+pub record WroteMemory (failed : Type 0) (old new : Option (List ℕ)) (work : Work) : Type 0 where
+  pub said : List ℕ
+  pub before : IsBefore work said
+  pub mid : Option (List ℕ)
+  pub took : Appends old mid said
+  pub reply : Tries failed mid new (memory_wire (is_head work))
+
+-- All was written; where the sink failed, a front of it; where a blob failed, all up to a place inside the blob; and
+-- where memory was wanting, the reply that says so, all of it unless the sink failed.
+abbrev pub Wrote : {B : Type 0} → Type 0 → Ended B → Option (List ℕ) → Option (List ℕ) → Work → Type 0
+Wrote failed ends.SinkFault old new work = TookFront old new (text_of work)
+Wrote failed (ends.BlobFault blob) old new work = BreaksInBlob old new work
+Wrote failed ends.NoMemory old new work = WroteMemory failed old new work
+Wrote failed ended old new work = Appends old new (text_of work)

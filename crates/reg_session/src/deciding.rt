@@ -7,7 +7,7 @@ ghost use Rattle.reg_session.specs.Requests.{limit_of_ask};
 ghost use Rattle.reg_session.specs.Turns.{goes_on_for, trouble_reply as reply_for};
 ghost use Rattle.reg_session.specs.InnerSteps.{Decides};
 
-use crate::holder::Turns;
+use crate::holder::Holder;
 use crate::holds::{list_tags, pull_blob, pull_manifest};
 use crate::replies::refusal;
 use depot_api::Depot;
@@ -40,7 +40,7 @@ pub(crate) fn goes_on(ask: &Ask) -> bool
 }
 
 /// The answer to an ask: a reply, with the blob that follows it.
-pub(crate) fn decide<D: Depot, K, P, H: Turns<D, K, P>>(
+pub(crate) fn decide<D: Depot, K, P, H: Holder<D, K, P>>(
     alloc: Global,
     holder: &mut H,
     pass: &P,
@@ -67,7 +67,7 @@ pub(crate) fn decide<D: Depot, K, P, H: Turns<D, K, P>>(
     }
 }
 
-fn decide_blob<D: Depot, K, P, H: Turns<D, K, P>>(
+fn decide_blob<D: Depot, K, P, H: Holder<D, K, P>>(
     alloc: Global,
     holder: &mut H,
     pass: &P,

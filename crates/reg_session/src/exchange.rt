@@ -1,7 +1,7 @@
 //! One request.
 ghost use Rattle.std.specs.Prelude.{◌≡◌, ◌≤◌, ℕ, true, [], List, Option, Ok};
 ghost use Rattle.std.specs.Io.KnownBytes.{Appends};
-ghost use Rattle.reg_names.specs.Cause.{HasCause};
+ghost use Rattle.reg_names.specs.Cause.{Rose, HasCause};
 ghost use Rattle.http_wire.specs.Flow.{stream, spent, Counts};
 ghost use Rattle.reg_session.specs.Requests.{parts_in, asked_in};
 ghost use Rattle.reg_session.specs.Sessions.{here};
@@ -13,7 +13,7 @@ ghost use Rattle.reg_session.specs.InnerSteps.{Advances, Behind, BreaksWith, bro
 use crate::bodies::{Dropped, drop_body};
 use crate::deciding::{decide, goes_on, limit_of};
 use crate::ended::{Ended, Step};
-use crate::holder::Turns;
+use crate::holder::Holder;
 use crate::replies::{conclude, is_head, no_memory, refusal, refuse, send_continue};
 use depot_api::{Blob, Depot, Sink, Source};
 use http_wire::{Feed, Head, Heading, expects_continue, read_head};
@@ -23,7 +23,7 @@ use reg_routes::{Unrouted, route};
 use std::alloc::Global;
 
 /// Reads one request, answers it, and writes the reply.
-pub(crate) fn exchange<D: Depot, K, P, H: Turns<D, K, P>, S: Source, O: Sink>(
+pub(crate) fn exchange<D: Depot, K, P, H: Holder<D, K, P>, S: Source, O: Sink>(
     alloc: Global,
     feed: &mut Feed,
     holder: &mut H,
@@ -36,7 +36,7 @@ where
     requires { H.may_enter holder.old }
     ensures outside { H.may_enter holder.new }
     ensures same { (origin : H) → H.is_of origin holder.old → H.is_of origin holder.new }
-    ensures exchanges { Exchanges H.between
+    ensures exchanges { Exchanges H.between (Rose (O.faults sink.old) (O.faults sink.new))
         (here (H.at holder.old) (stream feed.old (S.left source.old)) (S.left source.old)
         (O.taken sink.old))
         (here (H.at holder.new) (stream feed.new (S.left source.new)) (S.left source.new)
@@ -58,7 +58,7 @@ where
 }
 
 // Answers a request whose head was read.
-fn respond<D: Depot, K, P, H: Turns<D, K, P>, S: Source, O: Sink>(
+fn respond<D: Depot, K, P, H: Holder<D, K, P>, S: Source, O: Sink>(
     alloc: Global,
     feed: &mut Feed,
     holder: &mut H,
@@ -72,7 +72,8 @@ where
     requires { H.may_enter holder.old }
     ensures outside { H.may_enter holder.new }
     ensures same { (origin : H) → H.is_of origin holder.old → H.is_of origin holder.new }
-    ensures responds { Responds H.between (parts_in head.now) (H.at holder.old) (H.at holder.new)
+    ensures responds { Responds H.between (Rose (O.faults sink.old) (O.faults sink.new))
+        (parts_in head.now) (H.at holder.old) (H.at holder.new)
         (line (stream feed.old (S.left source.old)) (S.left source.old) (O.taken sink.old))
         (line (stream feed.new (S.left source.new)) (S.left source.new) (O.taken sink.new))
         result }
@@ -106,7 +107,7 @@ fn deny<B: Blob + Drop, S: Source, O: Sink>(
 ) -> Step<B>
     requires known { IsKnown (parts_in head.now) reply.now limit }
     requires small { IsSmallLimit limit }
-    ensures behind { Behind (parts_in head.now)
+    ensures behind { Behind (Rose (O.faults sink.old) (O.faults sink.new)) (parts_in head.now)
         (line (stream feed.old (S.left source.old)) (S.left source.old) (O.taken sink.old))
         (line (stream feed.new (S.left source.new)) (S.left source.new) (O.taken sink.new)) []
         result }
@@ -125,7 +126,7 @@ fn deny<B: Blob + Drop, S: Source, O: Sink>(
 }
 
 // Answers an ask, behind the body of its request.
-fn respond_to<D: Depot, K, P, H: Turns<D, K, P>, S: Source, O: Sink>(
+fn respond_to<D: Depot, K, P, H: Holder<D, K, P>, S: Source, O: Sink>(
     alloc: Global,
     feed: &mut Feed,
     holder: &mut H,
@@ -142,7 +143,8 @@ where
     requires told { goes_on_for ask.now ≡ true }
     ensures outside { H.may_enter holder.new }
     ensures same { (origin : H) → H.is_of origin holder.old → H.is_of origin holder.new }
-    ensures responds { Responds H.between (parts_in head.now) (H.at holder.old) (H.at holder.new)
+    ensures responds { Responds H.between (Rose (O.faults sink.old) (O.faults sink.new))
+        (parts_in head.now) (H.at holder.old) (H.at holder.new)
         (line (stream feed.old (S.left source.old)) (S.left source.old) (O.taken sink.old))
         (line (stream feed.new (S.left source.new)) (S.left source.new) (O.taken sink.new))
         result }
@@ -174,7 +176,8 @@ fn break_off<B: Drop, O: Sink>(
     ensures ends { BreaksWith dropped result }
     ensures wrote { (b : Begun) (start : Option (List ℕ)) → b.parts ≡ parts_in head.now
         → Appends start (O.taken sink.old) (interim b.parts)
-        → Wrote result start (O.taken sink.new) (broken b dropped) }
+        → Wrote (Rose (O.faults sink.old) (O.faults sink.new)) result start (O.taken sink.new)
+        (broken b dropped) }
     ensures cause { HasCause (O.faults sink.old) (O.faults sink.new) (result ≡ Ended.SinkFault) }
 {
     match dropped {

@@ -9,7 +9,7 @@ use depot_api::Depot;
 use reg_world::World;
 
 /// Who enters a world for each hold, and leaves it. `P` is what entering needs.
-pub trait Turns<D: Depot, K, P> {
+pub trait Holder<D: Depot, K, P> {
     /// The world as it was found or is left. Of one that is at home, what the holder knows of it: what it may find next
     /// is what may follow this.
     ghost at: { Self → Data };
@@ -72,7 +72,7 @@ pub struct Lent<'a, D, K> {
     pub world: &'a mut World<D, K>,
 }
 
-impl<'a, D: Depot, K> Turns<D, K, Nothing> for Lent<'a, D, K> {
+impl<'a, D: Depot, K> Holder<D, K, Nothing> for Lent<'a, D, K> {
     ghost use Rattle.std.specs.Prelude.{◌≡◌, refl};
     ghost use Rattle.std.proofs.Common.{◌∙◌};
     ghost use Rattle.reg_world.specs.Worlds.{shown, keeper_of};

@@ -6,14 +6,14 @@ ghost use Rattle.files_service.specs.Answers.{IsFresh};
 ghost use Rattle.reg_world.specs.Moves.{answers, seen_of};
 ghost use Rattle.reg_session.specs.Holds.{Held, HeldBlob};
 
-use crate::holder::Turns;
+use crate::holder::Holder;
 use depot_api::Depot;
 use reg_entries::{Reply, Trouble};
 use reg_names::{Digest, Name, Reference, Text};
 use std::alloc::Global;
 
 /// The manifest that a repository has under a reference, or a refusal.
-pub(crate) fn pull_manifest<D: Depot, K, P, H: Turns<D, K, P>>(
+pub(crate) fn pull_manifest<D: Depot, K, P, H: Holder<D, K, P>>(
     alloc: Global,
     holder: &mut H,
     pass: &P,
@@ -33,7 +33,7 @@ pub(crate) fn pull_manifest<D: Depot, K, P, H: Turns<D, K, P>>(
 }
 
 /// A blob that a repository links, with the reply that tells its size, or a refusal.
-pub(crate) fn pull_blob<D: Depot, K, P, H: Turns<D, K, P>>(
+pub(crate) fn pull_blob<D: Depot, K, P, H: Holder<D, K, P>>(
     alloc: Global,
     holder: &mut H,
     pass: &P,
@@ -55,7 +55,7 @@ pub(crate) fn pull_blob<D: Depot, K, P, H: Turns<D, K, P>>(
 }
 
 /// The tags of a repository, or a refusal.
-pub(crate) fn list_tags<D: Depot, K, P, H: Turns<D, K, P>>(
+pub(crate) fn list_tags<D: Depot, K, P, H: Holder<D, K, P>>(
     alloc: Global,
     holder: &mut H,
     pass: &P,

@@ -17,7 +17,7 @@ mod sending;
 mod session;
 
 pub use ended::Ended;
-pub use holder::{Lent, Nothing, Turns};
+pub use holder::{Holder, Lent, Nothing};
 pub use laws::served_are_messages;
 pub use sending::{Sent, send_body};
 pub use session::{serve, serve_alone};

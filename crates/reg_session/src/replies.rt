@@ -1,12 +1,13 @@
 //! Replies, as they are written.
 ghost use Rattle.std.specs.Prelude.{◌≡◌, ◌++◌, ◌≤◌, List, ℕ, Option, IsErr, IsSome, MatchResult, true};
 ghost use Rattle.std.specs.Io.KnownBytes.{Appends};
-ghost use Rattle.reg_names.specs.Cause.{HasCause};
+ghost use Rattle.reg_names.specs.Cause.{Rose, HasCause};
 ghost use Rattle.reg_model.specs.Answers.{refusal as refusal_with};
 ghost use Rattle.reg_model.specs.Blobs.{IsBlob};
 ghost use Rattle.reg_replies.specs.Replies.{wire as wire_of};
-ghost use Rattle.reg_replies.specs.Writing.{Sends, TookFront, memory_wire};
+ghost use Rattle.reg_replies.specs.Writing.{Sends, memory_wire};
 ghost use Rattle.reg_session.specs.Requests.{parts_in, is_last, awaits, head_only};
+ghost use Rattle.reg_session.specs.Sending.{Tries};
 ghost use Rattle.reg_session.specs.Turns.{wants_memory as has_no_memory};
 ghost use Rattle.reg_session.specs.Works as words;
 ghost use Rattle.reg_session.specs.InnerReplies.{line_for, RefusesWith, GoesOn, IsWhole, SendsAfter, Concludes, IsAfterReply, IfStepBlob, LeavesSome};
@@ -67,7 +68,8 @@ pub(crate) fn refuse<B: Drop, O: Sink>(
         → Appends start (O.taken sink.old) (words.before_reply work)
         → words.text_of work ≡ words.before_reply work ++ wire_of reply.now head_only true
         → words.is_head work ≡ head_only
-        → words.Wrote result start (O.taken sink.new) work }
+        → words.Wrote (Rose (O.faults sink.old) (O.faults sink.new)) result start
+        (O.taken sink.new) work }
     ensures cause { HasCause (O.faults sink.old) (O.faults sink.new) (result ≡ Ended.SinkFault) }
 {
     let Ok(text) = wire(alloc, reply, head_only, true) else {
@@ -94,7 +96,8 @@ fn number_of(reply: &Reply) -> u8
 /// Tries to tell that memory was wanting, and ends the session. It takes no memory.
 pub(crate) fn no_memory<B: Drop, O: Sink>(sink: &mut O, head_only: bool) -> Ended<B>
     ensures ends { result ≡ Ended.NoMemory }
-    ensures wrote { TookFront (O.taken sink.old) (O.taken sink.new) (memory_wire head_only) }
+    ensures wrote { Tries (Rose (O.faults sink.old) (O.faults sink.new)) (O.taken sink.old)
+        (O.taken sink.new) (memory_wire head_only) }
     ensures faults { O.faults sink.old ≤ O.faults sink.new }
 {
     let _ = write_all(sink, memory_reply(head_only).as_bytes());
@@ -110,8 +113,8 @@ pub(crate) fn conclude<B: Blob + Drop, O: Sink>(
     blob: Option<B>,
 ) -> Step<B>
     requires { IsSome blob → IsBlob reply.now }
-    ensures concludes { Concludes B.rest (parts_in head.now) reply.now blob
-        (O.taken sink.old) (O.taken sink.new) result }
+    ensures concludes { Concludes B.rest (Rose (O.faults sink.old) (O.faults sink.new))
+        (parts_in head.now) reply.now blob (O.taken sink.old) (O.taken sink.new) result }
     ensures cause { HasCause (O.faults sink.old) (O.faults sink.new)
         (result ≡ Step.Ended Ended.SinkFault) }
     ensures blob { IfStepBlob B.faults result }

@@ -1,11 +1,12 @@
 //! Whole sessions.
 ghost use Rattle.std.specs.Prelude.{◌≡◌};
+ghost use Rattle.reg_names.specs.Cause.{Rose};
 ghost use Rattle.reg_world.specs.Worlds.{shown, keeper_of};
 ghost use Rattle.reg_session.specs.Sessions.{here, Session, Causes};
 
 use crate::ended::{Ended, Step};
 use crate::exchange::exchange;
-use crate::holder::{Lent, Nothing, Turns};
+use crate::holder::{Holder, Lent, Nothing};
 use crate::replies::no_memory;
 use depot_api::{Clock, Depot, Ids, Sink, Source};
 use http_wire::Feed;
@@ -14,7 +15,7 @@ use std::alloc::Global;
 
 /// Answers the requests of one connection, one after the other, until it ends. Each hold of the world is entered by
 /// `holder`.
-pub fn serve<D: Depot, K, P, H: Turns<D, K, P>, S: Source, O: Sink>(
+pub fn serve<D: Depot, K, P, H: Holder<D, K, P>, S: Source, O: Sink>(
     alloc: Global,
     holder: &mut H,
     pass: &P,
@@ -26,7 +27,7 @@ where
     requires { H.may_enter holder.old }
     ensures outside { H.may_enter holder.new }
     ensures same { (origin : H) → H.is_of origin holder.old → H.is_of origin holder.new }
-    ensures session { Session H.between
+    ensures session { Session H.between (Rose (O.faults sink.old) (O.faults sink.new))
         (here (H.at holder.old) (S.left source.old) (S.left source.old) (O.taken sink.old))
         (here (H.at holder.new) (S.left source.new) (S.left source.new) (O.taken sink.new))
         result }
@@ -57,6 +58,7 @@ pub fn serve_alone<D: Depot, K, C: Clock, I: Ids, S: Source, O: Sink>(
 where
     D::B: Drop,
     ensures session { Session (λ old new. new ≡ old)
+        (Rose (O.faults sink.old) (O.faults sink.new))
         (here (shown D.held D.faults world.old) (S.left source.old) (S.left source.old)
         (O.taken sink.old))
         (here (shown D.held D.faults world.new) (S.left source.new) (S.left source.new)

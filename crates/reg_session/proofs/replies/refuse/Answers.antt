@@ -1,4 +1,5 @@
 use Rattle.std.proofs.Common.{List, ℕ, true, subst, ◌∙◌}
+use Rattle.reg_names.specs.Cause.{Rose}
 use Rattle.reg_replies.specs.Replies.{wire}
 use Rattle.std.specs.Io.KnownBytes.{Appends}
 use Rattle.reg_replies.specs.Writing.{TookFront}
@@ -7,7 +8,7 @@ use Rattle.reg_session.proofs.replies.refuse.Goals as goal
 
 pub returns-in_default-clause-wrote : goal.returns-in_default-clause-wrote
 returns-in_default-clause-wrote g c work start before is head =
-    refuses_memory c.args.head_only (g.O.Sink.taken c.args.sink.now) (g.O.Sink.taken c.no_memory.new.sink) c.no_memory.result c.no_memory.ensures.ends c.no_memory.ensures.wrote work start before head
+    refuses_memory (Rose (g.O.Sink.faults c.args.sink.now) (g.O.Sink.faults c.no_memory.new.sink)) c.args.head_only (g.O.Sink.taken c.args.sink.now) (g.O.Sink.taken c.no_memory.new.sink) c.no_memory.result c.no_memory.ensures.ends c.no_memory.ensures.wrote work start before head
 
 pub returns-in-Ok-write_all-clause-wrote : goal.returns-in-Ok-write_all-clause-wrote
 returns-in-Ok-write_all-clause-wrote g c work start before is head =

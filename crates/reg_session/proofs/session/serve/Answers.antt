@@ -1,14 +1,16 @@
 use Rattle.std.proofs.Common.{List, ℕ, [], ◌∷◌, ◌++◌, Option, refl, subst, arith}
+use Rattle.reg_names.specs.Cause.{Rose}
 use Rattle.http_wire.specs.Flow.{stream}
 use Rattle.http_wire.proofs.MovingLaws.{Counts-trans}
 use Rattle.reg_session.specs.Sessions.{here, Serves}
 use Rattle.reg_session.specs.Works.{idle}
-use Rattle.reg_session.proofs.SessionLaws.{serves_none, serves_more, idle_wants, from_empty, session_causes}
+use Rattle.reg_session.proofs.ConcludeLaws.{rose_before}
+use Rattle.reg_session.proofs.SessionLaws.{serves_none, serves_more, ends_before, idle_wants, from_empty, session_causes}
 use Rattle.reg_session.proofs.session.serve.Goals as goal
 
 pub returns-in_default-clause-session : goal.returns-in_default-clause-session
 returns-in_default-clause-session g c =
-    let at = g.H.Turns.at c.args.holder.now in
+    let at = g.H.Holder.at c.args.holder.now in
     let left = g.S.Source.left c.args.source.now in
     let sink = g.O.Sink.taken c.args.sink.now in
     record {
@@ -16,15 +18,15 @@ returns-in_default-clause-session g c =
       work = idle;
       mid = here at left left sink;
       rest = left;
-      serves = serves_none g.H.Turns.between at left left sink;
-      ends = idle_wants g.H.Turns.between at left left sink (g.O.Sink.taken c.no_memory.new.sink) c.no_memory.result c.no_memory.ensures.ends c.no_memory.ensures.wrote;
+      serves = serves_none g.H.Holder.between at left left sink;
+      ends = idle_wants g.H.Holder.between (Rose (g.O.Sink.faults c.args.sink.now) (g.O.Sink.faults c.no_memory.new.sink)) at left left sink (g.O.Sink.taken c.no_memory.new.sink) c.no_memory.result c.no_memory.ensures.ends c.no_memory.ensures.wrote;
     }
 
 pub requests-init : goal.requests-init
 requests-init g c = record {
   outside = c.requires;
   same = λ origin is. is;
-  so_far = ([], serves_none g.H.Turns.between (g.H.Turns.at c.args.holder.now) (stream c.in-Ok.feed (g.S.Source.left c.args.source.now)) (g.S.Source.left c.args.source.now) (g.O.Sink.taken c.args.sink.now));
+  so_far = ([], serves_none g.H.Holder.between (g.H.Holder.at c.args.holder.now) (stream c.in-Ok.feed (g.S.Source.left c.args.source.now)) (g.S.Source.left c.args.source.now) (g.O.Sink.taken c.args.sink.now));
   source_later = omega arith;
   sink_later = omega arith;
   counts = record { as_given = λ _. refl; grows = λ _. omega arith };
@@ -40,10 +42,10 @@ requests-preserved g c =
       same = λ origin is. c.exchange.ensures.same origin (c.requests.invariant.same origin is);
       so_far = (
         so_far.0 ++ one.0 ∷ [],
-        serves_more g.H.Turns.between
-            (here (g.H.Turns.at c.args.holder.now) (stream c.in-Ok.feed (S c.args.source.now)) (S c.args.source.now) (g.O.Sink.taken c.args.sink.now))
-            (here (g.H.Turns.at c.requests.holder) (stream c.requests.feed (S c.requests.source)) (S c.requests.source) (g.O.Sink.taken c.requests.sink))
-            (here (g.H.Turns.at c.exchange.new.holder) (stream c.exchange.new.feed (S c.exchange.new.source)) (S c.exchange.new.source) (g.O.Sink.taken c.exchange.new.sink)) so_far.0 one.0 so_far.1 one.1,
+        serves_more g.H.Holder.between
+            (here (g.H.Holder.at c.args.holder.now) (stream c.in-Ok.feed (S c.args.source.now)) (S c.args.source.now) (g.O.Sink.taken c.args.sink.now))
+            (here (g.H.Holder.at c.requests.holder) (stream c.requests.feed (S c.requests.source)) (S c.requests.source) (g.O.Sink.taken c.requests.sink))
+            (here (g.H.Holder.at c.exchange.new.holder) (stream c.exchange.new.feed (S c.exchange.new.source)) (S c.exchange.new.source) (g.O.Sink.taken c.exchange.new.sink)) so_far.0 one.0 so_far.1 one.1,
       );
       source_later = omega (arith, c.requests.invariant.source_later, c.exchange.ensures.causes.source.later);
       sink_later = omega (arith, c.requests.invariant.sink_later, c.exchange.ensures.causes.sink.later);
@@ -53,19 +55,22 @@ requests-preserved g c =
 pub returns-in-Ended-clause-session : goal.returns-in-Ended-clause-session
 returns-in-Ended-clause-session g c =
     let S = g.S.Source.left in
-    let at = g.H.Turns.at c.args.holder.now in
+    let at = g.H.Holder.at c.args.holder.now in
     let left = S c.args.source.now in
     let sink = g.O.Sink.taken c.args.sink.now in
     let so_far = c.requests.invariant.so_far in
     let end = c.in-Ended.ensures.exchanges in
-    let mid = here (g.H.Turns.at c.requests.holder) (stream c.requests.feed (S c.requests.source)) (S c.requests.source) (g.O.Sink.taken c.requests.sink) in
+    let faults = g.O.Sink.faults in
+    let mid = here (g.H.Holder.at c.requests.holder) (stream c.requests.feed (S c.requests.source)) (S c.requests.source) (g.O.Sink.taken c.requests.sink) in
     record {
       turns = so_far.0;
       work = end.0;
       mid = mid;
       rest = stream c.exchange.new.feed (S c.exchange.new.source);
-      serves = subst (λ (a : Option (List ℕ)). Serves g.H.Turns.between (here at a left sink) mid so_far.0) (from_empty c.in-Ok.feed.pending left c.in-Ok.ensures.pending) so_far.1;
-      ends = end.1;
+      serves = subst (λ (a : Option (List ℕ)). Serves g.H.Holder.between (here at a left sink) mid so_far.0) (from_empty c.in-Ok.feed.pending left c.in-Ok.ensures.pending) so_far.1;
+      ends = ends_before g.H.Holder.between (Rose (faults c.requests.sink) (faults c.exchange.new.sink)) (Rose (faults c.args.sink.now) (faults c.exchange.new.sink)) mid
+          (here (g.H.Holder.at c.exchange.new.holder) (stream c.exchange.new.feed (S c.exchange.new.source)) (S c.exchange.new.source) (g.O.Sink.taken c.exchange.new.sink)) c.in-Ended.ended end.0
+          (rose_before (faults c.args.sink.now) (faults c.requests.sink) (faults c.exchange.new.sink) c.requests.invariant.sink_later) end.1;
     }
 
 pub returns-in-Ended-clause-same : goal.returns-in-Ended-clause-same

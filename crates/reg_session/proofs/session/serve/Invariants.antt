@@ -7,11 +7,11 @@ use Rattle.reg_session.proofs.session.serve.Given as goal
 -- the requests so far were served
 abbrev pub invariant-requests : goal.invariant-requests
 invariant-requests g l = record {
-  outside : g.H.Turns.may_enter l.holder;
-  same : (origin : g.row.H.Denot) → g.H.Turns.is_of origin l.initial.holder → g.H.Turns.is_of origin l.holder;
-  so_far : SoFar g.H.Turns.between
-      (here (g.H.Turns.at l.initial.holder) (stream l.initial.feed (g.S.Source.left l.initial.source)) (g.S.Source.left l.initial.source) (g.O.Sink.taken l.initial.sink))
-      (here (g.H.Turns.at l.holder) (stream l.feed (g.S.Source.left l.source)) (g.S.Source.left l.source) (g.O.Sink.taken l.sink));
+  outside : g.H.Holder.may_enter l.holder;
+  same : (origin : g.row.H.Denot) → g.H.Holder.is_of origin l.initial.holder → g.H.Holder.is_of origin l.holder;
+  so_far : SoFar g.H.Holder.between
+      (here (g.H.Holder.at l.initial.holder) (stream l.initial.feed (g.S.Source.left l.initial.source)) (g.S.Source.left l.initial.source) (g.O.Sink.taken l.initial.sink))
+      (here (g.H.Holder.at l.holder) (stream l.feed (g.S.Source.left l.source)) (g.S.Source.left l.source) (g.O.Sink.taken l.sink));
   source_later : g.S.Source.faults l.initial.source ≤ g.S.Source.faults l.source;
   sink_later : g.O.Sink.faults l.initial.sink ≤ g.O.Sink.faults l.sink;
   counts : Counts l.initial.feed (g.S.Source.given l.initial.source) l.feed (g.S.Source.given l.source);
