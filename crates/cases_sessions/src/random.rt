@@ -73,7 +73,7 @@ fn is_answered(alloc: Global, shelf: &Shelf, input: &[u8]) -> Result<bool, NoMem
     let run = once(alloc, shelf, input)?;
     let written = run.out.written();
     Ok(
-        matches!(run.status, 0 | 10)
+        (run.status == 0 || run.status == 10)
             && (written.is_empty() || written.starts_with(b"HTTP/1.1 "))
             && run.is(&once_by_bytes(alloc, shelf, input)?),
     )

@@ -1,11 +1,10 @@
 -- What a run did.
-use Rattle.std.specs.Prelude.{◌≡◌, ℕ, ◌⊎◌, List}
-use Rattle.std.specs.Io.KnownBytes.{Appends}
+use Rattle.std.specs.Prelude.{◌≡◌, ℕ, List}
 use Rattle.reg_names.specs.Cause.{Rose, HasCause}
-use Rattle.reg_replies.specs.Writing.{TookFront}
 use Rattle.reg_world.specs.Worlds.{Data}
 use Rattle.reg_session.specs.declared.ended.Ended.{Ended}
 use Rattle.reg_session.specs.declared.ended.Ended.TheVariants as ends
+use Rattle.reg_session.specs.Sending.{Tries}
 use Rattle.reg_session.specs.Sessions.{here, Session, Causes}
 use Rattle.reg_run.specs.Devices.{Depots, Read, Written}
 use Rattle.reg_run.specs.Statuses.{code, status_of}
@@ -23,7 +22,8 @@ HandsBack ended left back = back ≡ left
 pub record Once {B : Type 0} (faults : B → ℕ) (depot : Depots) (input : Read) (out : Written) (exit : ℕ) : Type 0 where
   pub ended : Ended B
   pub left : Data
-  pub session : Session Alone (here depot.before input.left input.left out.taken)
+  pub session : Session Alone (Rose out.faults out.faults_after)
+      (here depot.before input.left input.left out.taken)
       (here left input.left_after input.left_after out.taken_after) ended
   pub causes : Causes input.faults input.faults_after out.faults out.faults_after input.given input.given_after
       faults ended
@@ -32,6 +32,5 @@ pub record Once {B : Type 0} (faults : B → ℕ) (depot : Depots) (input : Read
 
 -- all of a line was written, or a front of it, where the sink's count rose, which never falls
 pub record Writes (out : Written) (line : List ℕ) : Type 0 where
-  pub took : Appends out.taken out.taken_after line
-      ⊎ (TookFront out.taken out.taken_after line × Rose out.faults out.faults_after)
+  pub took : Tries (Rose out.faults out.faults_after) out.taken out.taken_after line
   pub later : HasCause out.faults out.faults_after ⊥
