@@ -17,9 +17,9 @@ pub fn served_are_messages()
         × Messages limits old (messages ++ more) ending }
 {}
 
-/// An input has one text. Two sessions of one input, each from the same world, which nobody else changes and whose depot
-/// tells what it holds and does not fail, write the same and end alike, if it is their input that ends them: no fault, no
-/// want of memory, and no 2^50 bytes.
+/// An input has one text. Two sessions of one input, from one world that nobody else changes and whose depot tells what it
+/// holds and does not fail, write the same and end alike, where the input ends them: no fault, no want of memory, and not
+/// 2^50 bytes.
 pub fn an_input_has_one_text<B>()
     ensures { (world : Data) (input written : List ℕ) (left : Option (List ℕ)) (one two : At)
         (ended other : EndedWith B)
