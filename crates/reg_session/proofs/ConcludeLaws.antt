@@ -38,7 +38,7 @@ front_whole a b x took = record { front = x; rest = []; split = sym (append-nil 
 pub tried : {T E : Type 0} (a b : Option (List ℕ)) (x : List ℕ) (before now : ℕ) (r : Result T E) → Sends a b x r
     → HasCause before now (IsErr r) → Tries (Rose before now) a b x
 tried a b x before now (Ok _) took cause = inl took
-tried a b x before now (Err _) took cause = inr (cause.rose tt, took)
+tried a b x before now (Err _) took cause = inr (cause.rose refl, took)
 
 -- ---- a sink that failed since then failed since earlier
 

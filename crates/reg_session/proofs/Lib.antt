@@ -2,8 +2,12 @@ pub mod BlobLaws
 pub mod BodyLaws
 pub mod ConcludeLaws
 pub mod DecidingLaws
+pub mod EndingLaws
 pub mod ExchangeLaws
+pub mod HoldLaws
 pub mod MessageLaws
 pub mod PieceLaws
+pub mod ReadingLaws
 pub mod RespondLaws
 pub mod SessionLaws
+pub mod TextLaws

@@ -1,8 +1,8 @@
 -- Whole sessions.
-use Rattle.std.specs.Prelude.{◌≡◌, ℕ, ◌+◌, ◌<◌, ◌≤◌, ◌^◌, false, List, map, flat_map, Option, ⊤}
+use Rattle.std.specs.Prelude.{◌≡◌, ℕ, ◌+◌, ◌<◌, ◌≤◌, ◌^◌, false, IsTrue, List, map, flat_map, Option, ⊤}
 use Rattle.std.specs.List.{AllByRecursion}
 use Rattle.std.specs.Io.KnownBytes.{Appends}
-use Rattle.reg_names.specs.Cause.{HasCause}
+use Rattle.reg_names.specs.Cause.{Rose, HasCause}
 use Rattle.http_wire.specs.Flow.{OnStream}
 use Rattle.reg_world.specs.Worlds.{Data}
 use Rattle.reg_session.specs.declared.ended.Ended.{Ended}
@@ -74,3 +74,21 @@ pub record Causes {B : Type 0} (source_before source_now sink_before sink_now gi
   pub sink : HasCause sink_before sink_now (ended ≡ ends.SinkFault)
   pub blob : IfBlobFault faults ended
   pub long : ended ≡ ends.Long → GaveMany given given_now
+
+-- ---- sessions that follow from their input
+
+-- how it ended stands in the input: no fault ended it, no want of memory, and no length
+abbrev pub EndsByInput : {B : Type 0} → Ended B → Type 0
+EndsByInput ends.Done = ⊤
+EndsByInput (ends.Refused n) = ⊤
+EndsByInput ends.Cut = ⊤
+EndsByInput ended = ⊥
+
+-- so it did, while nobody else changed the world, whose depot tells what it holds and did not fail
+pub record FollowsInput {B : Type 0} (old new : At) (ended : Ended B) : Type 0 where
+  pub sink_before : ℕ
+  pub sink_now : ℕ
+  pub session : Session (λ before now. now ≡ before) (Rose sink_before sink_now) old new ended
+  pub by_input : EndsByInput ended
+  pub tells : IsTrue old.world.held.tells
+  pub sound : ¬ (Rose old.world.faults new.world.faults)

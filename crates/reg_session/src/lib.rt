@@ -18,7 +18,7 @@ mod session;
 
 pub use ended::Ended;
 pub use holder::{Holder, Lent, Nothing};
-pub use laws::served_are_messages;
+pub use laws::{an_input_has_one_text, served_are_messages};
 pub use sending::{Sent, send_body};
 pub use session::{serve, serve_alone};
 
