@@ -88,10 +88,12 @@ fn is_put_elsewhere(rt: &HostRuntime, at: &str) -> Result<bool, Fail> {
     let mut depot = FileDepot::open(rt, "puts/root")?;
     let put = depot.put_small(rt.alloc(), &path(rt.alloc(), at)?, b"put");
     let next = depot.put_small(rt.alloc(), &path(rt.alloc(), "next")?, b"put");
-    Ok(put == Err(Refused::Failed)
-        && next == Ok(())
-        && depot.faults() == 1
-        && is_page(rt.alloc(), &mut depot, ".unnamed", "", 9, "")?)
+    Ok(
+        put == Err(Refused::Failed)
+            && next == Ok(())
+            && depot.faults() == 1
+            && is_page(rt.alloc(), &mut depot, ".unnamed", "", 9, "")?,
+    )
 }
 
 // Whether a path is lent once, and is absent until its stage, with a piece more, is shelved.
@@ -121,11 +123,15 @@ fn is_staged_again(rt: &HostRuntime, at: &str, bytes: &str) -> Result<bool, Fail
 // Whether, once `a/b.c` was placed, these bytes stand at the target, and no file where it was.
 fn is_placed(rt: &HostRuntime, to: &str, bytes: &str) -> Result<bool, Fail> {
     let mut depot = FileDepot::open(rt, "places/root")?;
-    let stage = depot.stage(rt.alloc(), &path(rt.alloc(), "a/b.c")?)?.ok_or("lent")?;
+    let stage = depot
+        .stage(rt.alloc(), &path(rt.alloc(), "a/b.c")?)?
+        .ok_or("lent")?;
     let placed = depot.place(rt.alloc(), stage, &path(rt.alloc(), to)?);
-    Ok(matches!(placed, Ok(size) if size == bytes.len() as u64)
-        && is_told(rt.alloc(), &mut depot, "a/b.c", Ok(None), "")?
-        && is_told(rt.alloc(), &mut depot, to, Ok(Some(bytes)), to)?)
+    Ok(
+        matches!(placed, Ok(size) if size == bytes.len() as u64)
+            && is_told(rt.alloc(), &mut depot, "a/b.c", Ok(None), "")?
+            && is_told(rt.alloc(), &mut depot, to, Ok(Some(bytes)), to)?,
+    )
 }
 
 // Whether a stage is a fault when it is placed whose name a small file has taken, which stays.
@@ -135,9 +141,11 @@ fn is_no_stage_placed(rt: &HostRuntime) -> Result<bool, Fail> {
     let stage = depot.stage(rt.alloc(), &at)?.ok_or("lent")?;
     depot.put_small(rt.alloc(), &at, b"put")?;
     let placed = depot.place(rt.alloc(), stage, &path(rt.alloc(), "never")?);
-    Ok(matches!(placed, Err(Unplaced::Failed))
-        && is_told(rt.alloc(), &mut depot, "a/b.c", Ok(Some("put")), "a/b.c")?
-        && is_told(rt.alloc(), &mut depot, "never", Ok(None), "")?)
+    Ok(
+        matches!(placed, Err(Unplaced::Failed))
+            && is_told(rt.alloc(), &mut depot, "a/b.c", Ok(Some("put")), "a/b.c")?
+            && is_told(rt.alloc(), &mut depot, "never", Ok(None), "")?,
+    )
 }
 
 fn is_removed(rt: &HostRuntime, at: &str) -> Result<bool, Fail> {
