@@ -1,11 +1,11 @@
 #!/usr/bin/env bash
-# Kills the program 200 times, or as often as is given, at most 200 milliseconds after it began to put small files or to upload, and
-# looks each time at what stands: every file is whole, as before or as asked, every one that was acknowledged is there, and of an
-# upload that was cut a front is staged. Then what fails: files that may not grow, as on a full disk; folders without permission,
-# tried as an ordinary user, as nobody where the script runs as root; files where folders should be, and folders where files
-# should be. The call is told as failed, nothing else is lost, nothing is left over, and the next call works.
-# Ends with status 1 where it is otherwise. The folders are made below a temporary directory and are removed at the end.
-# Build the program first: `rt run` in crates/disk_writes.
+# Kills the program 200 times, or as often as is given, at most 200 milliseconds after it began to put small files or
+# to upload, and looks each time at what stands: every file is whole, as before or as asked, every one that was
+# acknowledged is there, and of an upload that was cut a front is staged. Then what fails: files that may not grow, as
+# on a full disk; folders without permission, tried as an ordinary user, as nobody where the script runs as root;
+# files where folders should be, and folders where files should be. The call is told as failed, nothing else is lost,
+# nothing is left over, and the next call works. Ends with status 1 where it is otherwise. The folders are made below
+# a temporary directory and are removed at the end. Build the program first: `rt run` in crates/disk_writes.
 #     bench/kills.sh PROGRAM [RUNS]
 # shellcheck source=bench/timing.sh
 . "$(dirname "$0")/timing.sh"
@@ -99,8 +99,8 @@ print(f"{runs} kills: {puts - 1000} files put, {uploads - 1000} uploaded, none l
 
 # What a command tells, run by a shell that was told this before.
 def told(before, *arguments):
-    as_nobody = ["setpriv", "--reuid", "65534", "--regid", "65534", "--clear-groups"] if os.getuid() == 0 else []
-    run = [*as_nobody, "bash", "-c", f"{before}\nexec \"$@\"", "bash", program, *map(str, arguments)]
+    nobody = ["setpriv", "--reuid", "65534", "--regid", "65534", "--clear-groups"] if os.getuid() == 0 else []
+    run = [*nobody, "bash", "-c", f"{before}\nexec \"$@\"", "bash", program, *map(str, arguments)]
     lines = subprocess.run(run, stdout=subprocess.PIPE, check=True).stdout.decode().split("\n")
     expect("left over", names(f"{os.path.basename(arguments[1])}/.unnamed"), [])
     return lines[:-1]
@@ -127,7 +127,8 @@ if os.getuid() == 0 and shutil.which("setpriv") is None:
     print("full disk: told; no setpriv, so no folder without permission is tried")
 else:
     locked = make("locked")
-    expect("before", told(":", "put", locked, 1, 16) + told(":", "upload", locked, 1, 1), [*map(str, range(1, 17)), "1"])
+    expect("before", told(":", "put", locked, 1, 16), [str(n) for n in range(1, 17)])
+    expect("and an upload", told(":", "upload", locked, 1, 1), ["1"])
     for folder in "s", "u", "b":
         os.chmod(f"{locked}/{folder}", 0o555)
     expect("a locked folder", told(":", "put", locked, 17, 2), ["failed 17", "failed 18"])
@@ -139,7 +140,8 @@ else:
     os.chmod(f"{locked}/s", 0o755)
     os.chmod(f"{locked}/b", 0o755)
     expect("unlocked", told(":", "put", locked, 17, 1) + told(":", "place", locked, 2), ["17", "2"])
-    expect("then", (read("locked/s/1"), read("locked/b/2/data"), read("locked/b/1/data")), (small(17), whole(2), whole(1)))
+    stand = [read(f"locked/{at}") for at in ("s/1", "b/1/data", "b/2/data")]
+    expect("then", stand, [small(17), whole(1), whole(2)])
 
     taken = make("taken")
     write("taken/u/7", b"a file")
@@ -149,7 +151,7 @@ else:
             os.chown(folder, 65534, 65534)
     expect("a file for a folder", told(":", "upload", taken, 6, 3), ["6", "failed 7", "8"])
     expect("a folder for a file", told(":", "put", taken, 2, 3), ["2", "failed 3", "4"])
-    expect("what stands", [read(f"taken/{at}") for at in ("u/7", "s/3/file", "b/6/data", "b/8/data", "s/2", "s/4")],
-           [b"a file", b"below a folder", whole(6), whole(8), small(2), small(4)])
+    stand = [read(f"taken/{at}") for at in ("u/7", "s/3/file", "b/6/data", "b/8/data", "s/2", "s/4")]
+    expect("what stands", stand, [b"a file", b"below a folder", whole(6), whole(8), small(2), small(4)])
     print("full disk, folders without permission, files and folders for each other: told, and nothing lost")
 PYTHON

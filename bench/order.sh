@@ -1,9 +1,8 @@
 #!/usr/bin/env bash
-# Traces the system calls of one small file that is put and one upload that is placed, and ends with status 1 unless the data
-# are synced before they get their name, the folders of the name behind it, new folders into the ones above them, and all of it
-# before the call is acknowledged. Needs strace, a package of Debian.
-# The folders are made below a temporary directory and are removed at the end. Build the program first: `rt run` in
-# crates/disk_writes.
+# Traces the system calls of one small file that is put and one upload that is placed, and ends with status 1 unless
+# the data are synced before they get their name, the folders of the name behind it, new folders into the ones above
+# them, and all of it before the call is acknowledged. Needs strace, a package of Debian. The folders are made below a
+# temporary directory and are removed at the end. Build the program first: `rt run` in crates/disk_writes.
 #     bench/order.sh PROGRAM
 # shellcheck source=bench/timing.sh
 . "$(dirname "$0")/timing.sh"
@@ -12,7 +11,7 @@ command -v strace > /dev/null || fail "no strace"
 
 mkdir "$work/depot"
 for command in put upload; do
-    strace -y -s 200 -e trace=write,fsync,fdatasync,rename,renameat,renameat2,link,linkat,mkdir,mkdirat -o "$work/$command" \
+    strace -y -e trace=write,fsync,rename,renameat,renameat2,mkdir,mkdirat -o "$work/$command" \
         "$program" "$command" "$work/depot" 1 1 > "$work/told" || fail "$command failed"
     [ "$(cat "$work/told")" = 1 ] || fail "$command was not acknowledged"
 done
@@ -32,8 +31,8 @@ def calls(trace):
 
 def check(trace, data, name):
     made = list(calls(trace))
-    renames = [i for i, (call, paths) in enumerate(made) if call.startswith("rename") and paths[-1] == f"{depot}/{name}"]
-    told = [i for i, (call, paths) in enumerate(made) if call == "write" and paths and paths[0].endswith("/told")]
+    renames = [i for i, (call, paths) in enumerate(made) if call.startswith("rename") and paths[1] == f"{depot}/{name}"]
+    told = [i for i, (call, paths) in enumerate(made) if call == "write" and paths[0].endswith("/told")]
     if len(renames) != 1 or len(told) != 1:
         sys.exit(f"{trace}: {len(renames)} renames to {name}, {len(told)} acknowledgments")
     renamed, told = renames[0], told[0]
@@ -44,7 +43,8 @@ def check(trace, data, name):
     written = [i for i, (call, paths) in enumerate(made) if call == "write" and paths[:1] == [old]]
     if not written or written[-1] > renamed or not synced(old, written[-1], renamed):
         sys.exit(f"{trace}: the data were not synced before the rename")
-    if not all(synced(os.path.dirname(path), renamed, told) for path in {new, old} if not path.startswith(f"{depot}/.unnamed")):
+    changed = [os.path.dirname(path) for path in (new, old) if not path.startswith(f"{depot}/.unnamed/")]
+    if not all(synced(folder, renamed, told) for folder in changed):
         sys.exit(f"{trace}: a folder was not synced behind the rename")
     for i, (call, paths) in enumerate(made):
         if call.startswith("mkdir") and not synced(os.path.dirname(paths[-1]), i, told):

@@ -1,12 +1,11 @@
 #!/usr/bin/env bash
-# Puts 2,000 small files of 1 KB, appends 1 GB in pieces of 64 KB, and places it. Prints how many files are put in a second, beside
-# a Python process that does open, write, fsync, rename and fsync of the folder for each, and with strace how many system calls
-# one takes; how fast the pieces are appended, beside `cat` of as many bytes into a file; and how long placing them takes once
-# they are on the disk. All are times of a clock, the least of five runs.
-# Ends with status 1 where small files take more than 1.2 times as long as Python's, where appending has less than 0.8 of the
-# speed of cat, or where placing takes more than a fifth of the time of cat.
-# The folders are made below a temporary directory and are removed at the end. Build the program first: `rt run` in
-# crates/disk_writes.
+# Puts 2,000 small files of 1 KB, appends 1 GB in pieces of 64 KB, and places it. Prints how many files are put in a
+# second, beside a Python process that does open, write, fsync, rename and fsync of the folder for each, and with
+# strace how many system calls one takes; how fast the pieces are appended, beside `cat` of as many bytes into a file;
+# and how long placing them takes once they are on the disk. All are times of a clock, the least of five runs. Ends
+# with status 1 where small files take more than 1.2 times as long as Python's, where appending has less than 0.8 of
+# the speed of cat, or where placing takes more than a fifth of the time of cat. The folders are made below a
+# temporary directory and are removed at the end. Build the program first: `rt run` in crates/disk_writes.
 #     bench/writes.sh PROGRAM [FILES [MEGABYTES]]
 # shellcheck source=bench/timing.sh
 . "$(dirname "$0")/timing.sh"
@@ -52,7 +51,8 @@ awk -v n="$files" -v o="$ours" -v t="$theirs" \
     'BEGIN { printf "small files: %.0f a second, %.0f us each, %.2f times Python\n", n / o * 1e6, o / n, o / t }'
 few=$(system_calls "$program" put "$work/depot" 1000 20) || fail "no system calls were counted"
 many=$(system_calls "$program" put "$work/depot" 1000 120) || fail "no system calls were counted"
-[ -z "$many" ] || awk -v f="$few" -v m="$many" 'BEGIN { printf "%.1f system calls a small file, one of them its line\n", (m - f) / 100 }'
+[ -z "$many" ] || awk -v f="$few" -v m="$many" \
+    'BEGIN { printf "%.1f system calls a small file, one of them its line\n", (m - f) / 100 }'
 
 head -c $((megabytes << 20)) /dev/zero | tr '\0' x > "$work/large"
 copy() { cat "$work/large" > "$work/copy" && echo 1; }
