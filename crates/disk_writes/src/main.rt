@@ -1,8 +1,8 @@
-//! Changes of the files of a directory, which benchmarks time, trace and stop. The command line has one of the forms of
-//! `USAGE`: `put` and `upload` change the files of COUNT numbers from FIRST on, `append`, `place` and `remove` those of one.
-//! Behind each call it prints the number, or `failed` and the number, and goes on. Other arguments have status 2 and the
-//! usage, a directory that is none has status 1. `writes` does the same over any depot: what stands after a call is said by
-//! equations on what the depot holds, no other path changes, and a fault is told only where the depot had one.
+//! Changes of a directory's files, which benchmarks time, trace and stop. The command line has a form of `USAGE`: `put`
+//! and `upload` change the files of COUNT numbers from FIRST on, and `append`, `place` and `remove` those of one. Behind
+//! each call it prints the number, or `failed` and the number, and goes on. Other arguments have status 2 and the usage, a
+//! directory that is none status 1. `writes` does this over any depot: what stands after a call is an equation on what the
+//! depot holds, no other path changes, and a fault is told only where the depot had one.
 #![tactic(auto)]
 
 mod writes;
