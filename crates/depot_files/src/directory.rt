@@ -23,7 +23,8 @@ use reg_names::{Bytes, Refused};
 use std::alloc::Global;
 use std::fs::OpenFile;
 use std::io::{self, Read};
-use std::rt::Files;
+use std::random::RandomSource;
+use std::rt::{Clock, Files};
 
 /// The files below a root directory, which nobody else writes.
 ///
@@ -49,9 +50,9 @@ struct Moved {
     is_synced: bool,
 }
 
-impl<R: Files + AllocGlobal> FileDepot<R> {
+impl<R: Files + AllocGlobal + Clock + RandomSource> FileDepot<R> {
     /// The depot of a directory. What is none, is not there, or cannot be opened or searched is
-    /// refused.
+    /// refused. Files without a path that stopped programs left over a day ago are removed.
     pub fn open(rt: R, root: &str) -> io::Result<FileDepot<R>>
     where
         R: Drop,
@@ -75,7 +76,7 @@ impl<R: Files + AllocGlobal> FileDepot<R> {
     }
 }
 
-impl<R: Files + AllocGlobal + Drop> Depot for FileDepot<R> {
+impl<R: Files + AllocGlobal + Clock + Drop> Depot for FileDepot<R> {
     type B = FileBlob<R::File>;
 
     type S = FileStage<R::File>;
@@ -173,7 +174,7 @@ impl<R: Files + AllocGlobal + Drop> Depot for FileDepot<R> {
     }
 }
 
-impl<R: Files + AllocGlobal + Drop> FileDepot<R> {
+impl<R: Files + AllocGlobal + Clock + Drop> FileDepot<R> {
     // What was found or done, or the refusal. A fault is counted.
     fn counted<T: Drop>(&mut self, found: Result<T, FileError>) -> Result<T, Refused>
         ensures told { result ≡ as_told found }

@@ -6,6 +6,7 @@ ghost use Rattle.depot_api.specs.Limits.{file_limit};
 ghost use Rattle.depot_files.specs.declared.root.TheConstants.{MOST_FOLDERS};
 
 mod changes;
+mod unnamed;
 
 use crate::error::{FileError, if_there};
 use depot_api::{FILE_LIMIT, Part, Path};
@@ -15,7 +16,8 @@ use std::fs::{self, Metadata, OpenFile};
 use std::io::{self, Read};
 use std::os::unix::fs::MetadataExt;
 use std::path::AsPath;
-use std::rt::Files;
+use std::random::RandomSource;
+use std::rt::{Clock, Files};
 
 /// The most folders that are remembered.
 const MOST_FOLDERS: usize = 1024;
@@ -36,6 +38,8 @@ pub struct Root<R> {
     rt: R,
     /// The directory's own path, with no symbolic link in it.
     path: String,
+    /// What the names of files that have no path yet begin with.
+    word: u64,
     /// The system's paths of folders that were there and are no links, at which it looks no more.
     folders: BTreeSet<String>,
     ghost few: { btree_set_len folders ≤ MOST_FOLDERS },
@@ -59,9 +63,9 @@ pub struct Opened<F> {
     pub length: u64,
 }
 
-impl<R: Files + AllocGlobal> Root<R> {
+impl<R: Files + AllocGlobal + Clock + RandomSource> Root<R> {
     /// The root at a path of the system. What is no directory, and what cannot be opened or
-    /// searched, is refused.
+    /// searched, is refused. What stopped programs left over a day ago is removed, as far as it can.
     pub fn open(rt: R, path: &str) -> io::Result<Root<R>>
     where
         R: Drop,
@@ -72,10 +76,20 @@ impl<R: Files + AllocGlobal> Root<R> {
         let _ = rt.open_dir(path.as_str())?;
         let inside = format!(in alloc; "{path}/.")?;
         let _ = fs::symlink_metadata(&rt, inside.as_str())?;
+        let word = unnamed::draw_word(&rt);
         let folders = BTreeSet::new(alloc);
-        Ok(Root { rt, path, folders })
+        let root = Root {
+            rt,
+            path,
+            word,
+            folders,
+        };
+        let _ = root.clear_unnamed(alloc);
+        Ok(root)
     }
+}
 
+impl<R: Files + AllocGlobal> Root<R> {
     /// Opens the file at a path. What is opened is what was looked at before: a file that has come
     /// in its place is looked at anew.
     pub fn open_file(

@@ -8,7 +8,7 @@ use std::alloc::Global;
 use std::io::{self, ErrorKind};
 use std::os::fd::AsRawFd;
 use std::random::RandomSource;
-use std::rt::{Files, Runtime};
+use std::rt::{Clock, Files, Runtime};
 use std::{env, fs};
 
 /// Runs the program, and gives its exit status.
@@ -83,7 +83,7 @@ fn over_depot<R: Runtime + AllocGlobal + RandomSource>(
 }
 
 // The depot of a directory, and what holds the descriptors of the standard streams for it.
-fn open_behind_streams<'a, R: Files + AllocGlobal>(
+fn open_behind_streams<'a, R: Files + AllocGlobal + Clock + RandomSource>(
     rt: &'a R,
     root: &str,
 ) -> io::Result<(Vec<R::File>, FileDepot<&'a R>)>

@@ -5,6 +5,7 @@ use std::fs;
 use std::os::unix::fs::symlink;
 use std::test::Fail;
 
+mod changes;
 mod contents;
 mod pages;
 mod swaps;

@@ -4,19 +4,12 @@ ghost use Rattle.depot_api.specs.Limits.{file_limit};
 ghost use Rattle.depot_files.specs.declared.error.FileError.TheVariants as errors;
 
 use super::{Opened, Root, length_of};
-use crate::error::{FileError, if_there};
+use crate::error::FileError;
 use depot_api::Path;
 use std::alloc::Global;
 use std::fs::{self, OpenFile, OpenOptions};
-use std::io::{ErrorKind, Write};
 use std::os::unix::fs::MetadataExt;
 use std::rt::Files;
-
-/// The folder of files that have no path yet, below the root and beside the trees of files.
-const UNNAMED: &str = ".unnamed";
-
-/// How many names are tried for such a file. Each is of the file alone, since it is made anew.
-const MOST_NAMES: u64 = 1 << 20;
 
 impl<R: Files + AllocGlobal> Root<R> {
     /// The system's path of a path, whose folders are made where they are missing.
@@ -37,7 +30,7 @@ impl<R: Files + AllocGlobal> Root<R> {
         Ok(folder)
     }
 
-    /// The system's path of a path, where a file lies there. What is no file is a fault.
+    /// The system's path of a path, where a file lies there. A symbolic link is a fault.
     pub fn file_name(&mut self, alloc: Global, path: &Path) -> Result<Option<String>, FileError> {
         let Some(name) = self.reach(alloc, path)? else {
             return Ok(None);
@@ -68,31 +61,6 @@ impl<R: Files + AllocGlobal> Root<R> {
         Ok(named.is_some_and(|found| (found.dev(), found.ino()) == (own.dev(), own.ino())))
     }
 
-    /// A new file of these bytes, synced, that has no path yet. Gives the name that it has until then.
-    pub fn write_unnamed(&mut self, alloc: Global, bytes: &[u8]) -> Result<String, FileError> {
-        let root = self.path.as_str();
-        let folder = format!(in alloc; "{root}/{UNNAMED}")?;
-        if !self.has_folder(alloc, folder.as_str())? {
-            self.make_folder(folder.as_str())?;
-        }
-        for number in 0..MOST_NAMES {
-            let name = format!(in alloc; "{folder}/{number}")?;
-            match OpenOptions::new()
-                .write(true)
-                .create_new(true)
-                .open(&self.rt, name.as_str())
-            {
-                Ok(file) => {
-                    self.fill(file, name.as_str(), bytes)?;
-                    return Ok(name);
-                }
-                Err(error) if error.kind() == ErrorKind::AlreadyExists => {}
-                Err(error) => return Err(FileError::from(error)),
-            }
-        }
-        Err(FileError::Fault)
-    }
-
     /// Gives a file another name, in the place of a file that has it. A folder or a link is a fault.
     pub fn rename(&self, from: &str, to: &str) -> Result<(), FileError> {
         if self.look(to)?.is_some_and(|found| !found.is_file()) {
@@ -120,18 +88,9 @@ impl<R: Files + AllocGlobal> Root<R> {
         }
     }
 
-    // Makes a folder, which is synced into the one above it.
-    fn make_folder(&self, folder: &str) -> Result<(), FileError> {
+    /// Makes a folder, which is synced into the one above it.
+    pub fn make_folder(&self, folder: &str) -> Result<(), FileError> {
         fs::create_dir(&self.rt, folder)?;
         self.sync_above(folder)
-    }
-
-    // Writes a new file, and syncs it. One that fails is taken away again.
-    fn fill(&self, mut file: R::File, name: &str, bytes: &[u8]) -> Result<(), FileError> {
-        if file.write_all(bytes).is_ok() && file.sync_all().is_ok() {
-            return Ok(());
-        }
-        let _ = if_there(fs::remove_file(&self.rt, name));
-        Err(FileError::Fault)
     }
 }

@@ -7,12 +7,12 @@ use std::fs::File;
 use std::io::ErrorKind;
 
 /// What lies at a path: a file with these bytes, no file, or what is a fault.
-type Told = Result<Option<&'static str>, Refused>;
+type Told<'a> = Result<Option<&'a str>, Refused>;
 
-const FAULT: Told = Err(Refused::Failed);
+const FAULT: Told<'static> = Err(Refused::Failed);
 
 /// What lies at a path, and the page of the files that begin with it.
-const TOLD: [(&str, Told, &str); 25] = [
+const TOLD: [(&str, Told<'static>, &str); 25] = [
     ("b", Ok(Some("x")), "b"),
     ("a/b.c", Ok(Some("hello")), "a/b.c"),
     ("a/b/c", Ok(Some("in c")), "a/b/c"),
@@ -44,7 +44,7 @@ const TOLD: [(&str, Told, &str); 25] = [
 fn each_kind_of_file_is_told_at_each_kind_of_place(rt: HostRuntime) -> Result<(), Fail> {
     make(&rt, "kinds")?;
     for (at, told, page) in TOLD {
-        assert!(rt; is_told(&rt, at, told, page)?, "{at}");
+        assert!(rt; is_kind(&rt, at, told, page)?, "{at}");
     }
     Ok(fs::remove_dir_all(&rt, "kinds")?)
 }
@@ -63,20 +63,31 @@ fn a_root_is_a_folder(rt: HostRuntime) -> Result<(), Fail> {
     Ok(fs::remove_dir_all(&rt, "roots")?)
 }
 
-fn is_told(rt: &HostRuntime, at: &str, told: Told, page: &str) -> Result<bool, Fail> {
-    let path = path(rt.alloc(), at)?;
+fn is_kind(rt: &HostRuntime, at: &str, told: Told<'_>, page: &str) -> Result<bool, Fail> {
     let mut depot = FileDepot::open(rt, "kinds/root")?;
+    is_told(rt.alloc(), &mut depot, at, told, page)
+}
+
+/// Whether each call that reads tells this of a path, and this is the page of the files that begin with it.
+pub fn is_told(
+    alloc: Global,
+    depot: &mut FileDepot<&HostRuntime>,
+    at: &str,
+    told: Told<'_>,
+    page: &str,
+) -> Result<bool, Fail> {
+    let path = path(alloc, at)?;
     let size = told.map(|found| found.map(|bytes| bytes.len() as u64));
-    let is_told = depot.size(rt.alloc(), &path) == size
-        && is_small(rt.alloc(), &mut depot, &path, told)
-        && is_blob(rt.alloc(), &mut depot, &path, told);
-    Ok(is_told && is_page(rt.alloc(), &mut depot, at, "", 9, page)?)
+    let is_told = depot.size(alloc, &path) == size
+        && is_small(alloc, depot, &path, told)
+        && is_blob(alloc, depot, &path, told);
+    Ok(is_told && is_page(alloc, depot, at, "", 9, page)?)
 }
 
 /// The length of `a/b/c`, one below that of `a/b.c`.
 const MOST: u64 = 4;
 
-fn is_small(alloc: Global, depot: &mut FileDepot<&HostRuntime>, at: &Path, told: Told) -> bool {
+fn is_small(alloc: Global, depot: &mut FileDepot<&HostRuntime>, at: &Path, told: Told<'_>) -> bool {
     match (depot.read_small(alloc, at, MOST), told) {
         (Ok(Small::Content(found)), Ok(Some(bytes))) => found.as_slice() == bytes.as_bytes(),
         (Ok(Small::TooLong), Ok(Some(bytes))) => bytes.len() as u64 > MOST,
@@ -85,7 +96,7 @@ fn is_small(alloc: Global, depot: &mut FileDepot<&HostRuntime>, at: &Path, told:
     }
 }
 
-fn is_blob(alloc: Global, depot: &mut FileDepot<&HostRuntime>, at: &Path, told: Told) -> bool {
+fn is_blob(alloc: Global, depot: &mut FileDepot<&HostRuntime>, at: &Path, told: Told<'_>) -> bool {
     match (depot.fetch(alloc, at), told) {
         (Ok(Some(blob)), Ok(Some(bytes))) => gives(blob, bytes.as_bytes()),
         (Ok(None), Ok(None)) | (Err(Refused::Failed), Err(_)) => true,

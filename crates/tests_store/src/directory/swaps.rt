@@ -6,7 +6,9 @@ use std::alloc::Allocator;
 use std::fs::{File, Metadata, OpenOptions};
 use std::io;
 use std::path::PathBuf;
-use std::rt::Files;
+use std::random::RandomSource;
+use std::rt::{Clock, Files};
+use std::time::Duration;
 
 const SWAPS: [&str; 3] = ["../../outside/secret", "../a/b.c", "nowhere"];
 
@@ -84,5 +86,21 @@ impl Files for Swapping<'_> {
 
     fn canonicalize<B: Allocator>(&self, alloc: B, path: &str) -> io::Result<PathBuf<B>> {
         self.rt.canonicalize(alloc, path)
+    }
+}
+
+impl Clock for Swapping<'_> {
+    fn monotonic(&self) -> io::Result<Duration> {
+        self.rt.monotonic()
+    }
+
+    fn since_1970(&self) -> io::Result<Duration> {
+        self.rt.since_1970()
+    }
+}
+
+impl RandomSource for Swapping<'_> {
+    fn fill_bytes(&self, buf: &mut [u8]) -> io::Result<()> {
+        self.rt.fill_bytes(buf)
     }
 }
