@@ -6,7 +6,7 @@ use Rattle.reg_journal.specs.declared.entry.Entry.{Entry}
 use Rattle.reg_journal.specs.declared.entry.What.{What}
 use Rattle.reg_journal.specs.declared.entry.What.TheVariants.{Put, SetTag, DropTag, DropManifest, Mark, Link, Unlink, Brought, BroughtLink, BroughtTag, RemovedManifest, RemovedLink, Opened, BroughtBlob, Collect, DropLink, Doom, Erase}
 use Rattle.reg_journal.specs.Kinds.{repository_of, digest_of}
-use Rattle.reg_journal.specs.Past.{Past, next_number}
+use Rattle.reg_journal.specs.Past.{Past, next_number, shown}
 use Rattle.reg_journal.specs.Changes.{is_same, is_at, points_to, with_one, with_in, kept_size, link_of, condemned_at, apply}
 use Rattle.reg_journal.specs.Legal.{made_at}
 use Rattle.reg_journal.specs.Staying.{IsSameIn, IsSameAt, IsApart}
@@ -111,3 +111,27 @@ others_at past entry digest h = same_at past entry.moment entry.what digest h
 
 pub other_tags : (past : Past) (entry : Entry) (name tag : List ℕ) → IsApart entry.what tag (past.tags name tag) → (apply past entry).tags name tag ≡ past.tags name tag
 other_tags past entry name tag h = tag_stays past entry.moment entry.what name tag h
+
+-- an entry that names no repository leaves the state
+state_stays : (past : Past) (now : ℕ) (what : What) → repository_of what ≡ None → shown (apply past (made_at now what)) ≡ shown past
+state_stays past now (Mark d) h = refl
+state_stays past now Opened h = refl
+state_stays past now (BroughtBlob d size) h = refl
+state_stays past now (Doom d) h = refl
+state_stays past now (Erase d) h = refl
+state_stays past now (Put r d doc) h = absurd cc
+state_stays past now (SetTag r t d) h = absurd cc
+state_stays past now (DropTag r t) h = absurd cc
+state_stays past now (DropManifest r d) h = absurd cc
+state_stays past now (Link r d size) h = absurd cc
+state_stays past now (Unlink r d) h = absurd cc
+state_stays past now (Brought r d doc) h = absurd cc
+state_stays past now (BroughtLink r d size) h = absurd cc
+state_stays past now (BroughtTag r t d) h = absurd cc
+state_stays past now (RemovedManifest r d) h = absurd cc
+state_stays past now (RemovedLink r d) h = absurd cc
+state_stays past now (Collect r d) h = absurd cc
+state_stays past now (DropLink r d) h = absurd cc
+
+pub same_state : (past : Past) (entry : Entry) → repository_of entry.what ≡ None → shown (apply past entry) ≡ shown past
+same_state past entry h = state_stays past entry.moment entry.what h

@@ -1,15 +1,16 @@
 //! Laws of journals.
-ghost use Rattle.std.specs.Prelude.{◌≡◌, ◌≢◌, ◌↔◌, ◌≤◌, ◌++◌, ◌∷◌, [], ℕ, List, Some, IsSome};
+ghost use Rattle.std.specs.Prelude.{◌≡◌, ◌≢◌, ◌↔◌, ◌≤◌, ◌++◌, ◌∷◌, [], ℕ, List, None, Some, IsSome};
 ghost use Rattle.std.specs.List.{count_by};
 ghost use Rattle.reg_journal.specs.Changes.{apply, replay};
 ghost use Rattle.reg_journal.specs.Entries.{IsEntry};
 ghost use Rattle.reg_journal.specs.Keeping.{IsFreely};
 ghost use Rattle.reg_journal.specs.Kinds.{is_opening, repository_of, digest_of};
-ghost use Rattle.reg_journal.specs.Legal.{IsUntagged, IsUnlisted, IsUnlinked, IsUnnamed, IsLegal, Legal, made_at};
-ghost use Rattle.reg_journal.specs.Past.{Past};
+ghost use Rattle.reg_journal.specs.Legal.{IsUntagged, IsUnlisted, IsUnlinked, IsUnnamed, IsLegal, Legal, Collectable, made_at};
+ghost use Rattle.reg_journal.specs.Past.{Past, shown};
 ghost use Rattle.reg_journal.specs.Spelling.{entry_spelled};
 ghost use Rattle.reg_journal.specs.Staying.{IsSameIn, IsSameAt, IsApart};
 ghost use Rattle.reg_journal.specs.declared.entry.Entry.{Entry as Written};
+ghost use Rattle.reg_journal.specs.declared.entry.What.{What};
 ghost use Rattle.reg_journal.specs.declared.entry.What.TheVariants.{Collect, DropLink, Doom};
 
 /// One more entry is applied to what the journal left, and is legal by that.
@@ -29,7 +30,7 @@ pub fn beginnings_are_legal()
 {}
 
 /// An entry leaves what it does not name: other repositories, other digests, and other tags, unless it names the
-/// manifest that they point to.
+/// manifest that they point to. One that names no repository leaves what all of them have.
 pub fn others_stay()
     ensures repositories { (past : Past) (entry : Written) (name : List ℕ) →
         repository_of entry.what ≢ Some name → IsSameIn name past (apply past entry) }
@@ -38,6 +39,8 @@ pub fn others_stay()
     ensures tags { (past : Past) (entry : Written) (name tag : List ℕ) →
         IsApart entry.what tag (past.tags name tag) →
         (apply past entry).tags name tag ≡ past.tags name tag }
+    ensures state { (past : Past) (entry : Written) →
+        repository_of entry.what ≡ None → shown (apply past entry) ≡ shown past }
 {}
 
 /// After a legal journal each tag points to a manifest of its repository.
@@ -72,6 +75,12 @@ pub fn collections_take_what_nothing_holds()
     ensures digests { (delay now : ℕ) (journal more : List Written) (digest : List ℕ) →
         Legal delay (journal ++ made_at now (Doom digest) ∷ more) →
         IsUnlinked (replay journal) digest × IsUnnamed (replay journal) digest }
+{}
+
+/// A collection that a review may make leaves a legal journal legal.
+pub fn reviews_are_legal()
+    ensures { (delay now : ℕ) (journal : List Written) (what : What) → Legal delay journal →
+        Collectable delay journal now what → Legal delay (journal ++ made_at now what ∷ []) }
 {}
 
 /// No two entries have one spelling.
