@@ -1,0 +1,10 @@
+pub mod Numbers
+pub mod Spelling
+pub mod Entries
+pub mod Kinds
+pub mod Past
+pub mod Changes
+pub mod Legal
+pub mod Staying
+pub mod Keeping
+pub mod InnerReading
