@@ -11,13 +11,19 @@ use std::alloc::Global;
 use std::io;
 
 fn main(rt: HostRuntime) -> io::Result<()> {
-    answer_lines::<Entries, _>(&rt)
+    answer_lines(&rt, &mut Entries)
 }
 
+#[derive(Drop)]
 struct Entries;
 
 impl Cases for Entries {
-    fn answer(alloc: Global, kind: &str, text: &[u8]) -> Result<Option<String>, NoMemory> {
+    fn answer(
+        &mut self,
+        alloc: Global,
+        kind: &str,
+        text: &[u8],
+    ) -> Result<Option<String>, NoMemory> {
         if kind != "entry" {
             return Ok(None);
         }
