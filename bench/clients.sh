@@ -55,7 +55,8 @@ digest=sha256:$(sha256sum < "$work/manifest" | cut -d' ' -f1)
 layer=sha256:$(sha256sum < "$work/layer" | cut -d' ' -f1)
 
 port=$(python3 -c 'import socket; s = socket.socket(); s.bind(("127.0.0.1", 0)); print(s.getsockname()[1])')
-socat "TCP-LISTEN:$port,bind=127.0.0.1,reuseaddr,fork,max-children=32" "EXEC:$program once --root $work/depot" &
+socat "TCP-LISTEN:$port,bind=127.0.0.1,reuseaddr,fork,max-children=32" "EXEC:$program once --root $work/depot" 2> /dev/null &
+# A client that tries TLS first gets a refusal, and the run that gave it ends with status 10, of which socat would tell.
 listener=$!
 trap 'kill "$listener" 2> /dev/null || true; rm -rf "$work"' EXIT
 for _ in $(seq 50); do
