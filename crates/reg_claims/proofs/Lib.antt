@@ -1,0 +1,3 @@
+pub mod OneClaimLaws
+pub mod StandingLaws
+pub mod SoundLaws
