@@ -1,7 +1,7 @@
 //! What bytes are as a manifest.
 use crate::told;
-use manifest_doc::{Doc, DocFault, read_doc, read_stored};
-use reg_names::{DIGEST_TEXT_LENGTH, Digest, NoMemory};
+use manifest_doc::{Doc, DocFault, Judged, MANIFEST_LIMIT, Pushed, read_doc, read_stored};
+use reg_names::{Bytes, DIGEST_TEXT_LENGTH, Digest, NoMemory, Text};
 use std::alloc::Global;
 use std::str;
 
@@ -90,4 +90,26 @@ pub fn stored_answer(alloc: Global, text: &[u8]) -> Result<String, NoMemory> {
 fn digest_and_bytes(text: &[u8]) -> Option<(Digest, &[u8])> {
     let (digest, rest) = text.split_at_checked(DIGEST_TEXT_LENGTH)?;
     Some((Digest::read_bytes(digest)?, rest.strip_prefix(b" ")?))
+}
+
+/// `pushed TYPE\nTEXT`: the kind of the document that the text is, pushed with this Content-Type, or why it is refused.
+/// Without a line feed there is no Content-Type. One that is no UTF-8 is the empty one.
+pub fn pushed_answer(alloc: Global, text: &[u8]) -> Result<String, NoMemory> {
+    let Some(end) = text.iter().position(|b| *b == b'\n') else {
+        return judged_answer(alloc, text, None);
+    };
+    let typed = str::from_utf8(&text[..end]).unwrap_or("");
+    let typed = Text::from_str(alloc, typed)?;
+    judged_answer(alloc, &text[end + 1..], Some(&typed))
+}
+
+fn judged_answer(alloc: Global, bytes: &[u8], typed: Option<&Text>) -> Result<String, NoMemory> {
+    if bytes.len() as u64 > MANIFEST_LIMIT {
+        return told(alloc, "too long");
+    }
+    let pushed = Pushed::of(alloc, Bytes::from_slice(alloc, bytes)?, typed)?;
+    match &pushed.judged {
+        Judged::Good(doc) => Ok(format!(in alloc; "{:?}", doc.kind)?),
+        Judged::Bad(word) => told(alloc, word.as_str()),
+    }
 }

@@ -39,6 +39,7 @@ impl Cases for Texts {
             "document" => documents::answer(alloc, text)?,
             "descriptor" => told(alloc, documents::descriptor_answer(alloc, text)?)?,
             "stored" => documents::stored_answer(alloc, text)?,
+            "pushed" => documents::pushed_answer(alloc, text)?,
             "path" => places::path_answer(alloc, text)?,
             "place" => places::answer(alloc, text)?,
             _ => return Ok(None),

@@ -31,7 +31,7 @@ over_cond F false x y = refl
 pub same_at : (p q : Path) → is_at p q ≡ true → p ≡ q
 same_at p q at = path_same p q (equal_from (path_cmp p q) at)
 
-at_itself : (p : Path) → is_at p p ≡ true
+pub at_itself : (p : Path) → is_at p p ≡ true
 at_itself p = ap is_eq (tied_itself path_total p)
 
 -- what stands at p already changes nothing when it is put there

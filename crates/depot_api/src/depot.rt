@@ -103,6 +103,10 @@ pub trait Depot {
             ArePathsAbove under.now (option_copied after.entry) page.items) }
         ensures reads { OnlyReads held faults self.old self.new (HasFailed result) };
 
+    /// Whether a path is lent. Takes no memory, and cannot fail.
+    fn is_lent(&self, at: &Path) -> bool
+        ensures { result ≡ (held self.now).lent at.now };
+
     /// Puts these bytes at a path, in the place of what stands there. Where the path was lent, that loan has ended.
     ///
     /// Errors, here and in `remove`: `Failed` where the depot failed and its count of faults rose, and the change was

@@ -113,6 +113,10 @@ impl<R: Files + AllocGlobal + Clock + Drop> Depot for FileDepot<R> {
         self.counted(found)
     }
 
+    fn is_lent(&self, at: &Path) -> bool {
+        self.loans.has(at)
+    }
+
     fn put_small(&mut self, alloc: Global, at: &Path, bytes: &[u8]) -> Result<(), Refused> {
         forget(&mut self.walk);
         let put = self.put_at(alloc, at, bytes);

@@ -4,3 +4,4 @@ pub mod BrokenLaws
 pub mod WalkLaws
 pub mod LinkLaws
 pub mod ListingLaws
+pub mod PointingLaws

@@ -19,18 +19,18 @@ use Rattle.link_paths.specs.Folders.{digest_link, layers_folder, revisions_folde
 use Rattle.link_paths.proofs.ApartPlaces.{same_place}
 use Rattle.link_paths.proofs.FolderPlaces.{layer_begins, revision_begins, tag_begins}
 use Rattle.link_paths.proofs.PathOrder.{layers_in_order, revisions_in_order}
-use Rattle.reg_entries.specs.State.{State, lists_child}
+use Rattle.reg_entries.specs.State.{State, lists_child, IsLeastParent}
 use Rattle.reg_entries.specs.Listing.{is_behind}
 use Rattle.link_reading.specs.declared.links_below.Wanted.{Wanted}
 use Rattle.link_reading.specs.declared.links_below.Wanted.TheVariants.{Layer, Manifest, ListerOf}
 use Rattle.manifest_doc.specs.declared.document.Doc.{Doc}
-use Rattle.link_reading.specs.Answers.{FindsManifest, Knows, IsLeastParent}
+use Rattle.link_reading.specs.Answers.{FindsManifest, Knows}
 use Rattle.link_reading.specs.Meaning.{Means, only_manifest, data_at, links_to, manifest_in, manifest_at, target_at}
 use Rattle.link_reading.specs.InnerWalks.{Spot, AreNext, IsReady, Quest, LiesAt, IsFirst, WalksTo}
 use Rattle.link_reading.specs.InnerLinks.{wants, link_path, links_folder, link_quest, IsLeastWanted, tag_quest, with_note, AreNoted}
 use Rattle.link_reading.proofs.MeaningLaws.{links_to-is}
 
-unless : (b : Bool) → ¬ (b ≡ true) → b ≡ false
+pub unless : (b : Bool) → ¬ (b ≡ true) → b ≡ false
 unless true h = absurd (h refl)
 unless false h = refl
 
@@ -121,7 +121,7 @@ target_by false c name files file h = absurd (true≢false (sym h))
 pub listed_by : (files : Files) (name : List ℕ) (last : Option (List ℕ)) (tag : List ℕ) → is_behind last tag && is_some (target_at files name tag) ≡ true → IsName name × (IsTag tag × IsSome (files (tag_path name tag)))
 listed_by files name last tag h = target_by (is_name name) (is_tag tag) name files (files (tag_path name tag)) (and_parts (is_behind last tag) _ h).1
 
-tag_alone : (name t u : List ℕ) → IsName name → IsTag t → IsTag u → tag_path name t ≡ tag_path name u → t ≡ u
+pub tag_alone : (name t u : List ℕ) → IsName name → IsTag t → IsTag u → tag_path name t ≡ tag_path name u → t ≡ u
 tag_alone name t u n h k e = cc (same_place (places.TagCurrent name t) (places.TagCurrent name u) (n, h) (n, k) e)
 
 pub tag_path_begins : (name t : List ℕ) → IsName name → IsTag t → IsTrue (begins_with (tags_folder name) (tag_path name t))
@@ -141,7 +141,7 @@ pub not_behind_lies : (files : Files) (name : List ℕ) (last : Option (List ℕ
 not_behind_lies files name last path tag n read e = other_tag_lies files name last path tag n read (ap (λ b. b && is_some (target_at files name tag)) e)
 
 -- what a tag means, by what its link holds
-target_of : (files : Files) (name tag : List ℕ) (path : List (List ℕ)) (named : Option (List ℕ)) → IsName name → ReadsBack IsTag (tag_path name) path (Some tag) → named ≡ option_and_then digest_named (files path) → target_at files name tag ≡ option_and_then (only_manifest files name) named
+pub target_of : (files : Files) (name tag : List ℕ) (path : List (List ℕ)) (named : Option (List ℕ)) → IsName name → ReadsBack IsTag (tag_path name) path (Some tag) → named ≡ option_and_then digest_named (files path) → target_at files name tag ≡ option_and_then (only_manifest files name) named
 target_of files name tag path named n read e =
     ap (λ b. cond (b && is_tag tag) (option_and_then (only_manifest files name) (option_and_then digest_named (files (tag_path name tag)))) None) n
     ∙ ap (λ b. cond b (option_and_then (only_manifest files name) (option_and_then digest_named (files (tag_path name tag)))) None) read.0

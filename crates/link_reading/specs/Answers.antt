@@ -1,10 +1,8 @@
 -- What a call answers by the files.
-use Rattle.std.specs.Prelude.{◌≡◌, ℕ, Bool, true, false, List, length, Option, Some, None, IsTrue}
-use Rattle.std.specs.Ordering.{nat_cmp, is_lt}
-use Rattle.std.specs.Cmp.Lexicographic.{slice_cmp}
+use Rattle.std.specs.Prelude.{◌≡◌, ℕ, Bool, true, false, List, length, Option, Some, None}
 use Rattle.manifest_doc.specs.declared.document.Doc.{Doc}
 use Rattle.depot_api.specs.Files.{Files}
-use Rattle.reg_entries.specs.State.{State, IsKnown, Lists}
+use Rattle.reg_entries.specs.State.{State, IsKnown}
 use Rattle.link_reading.specs.declared.manifests.StoredManifest.{StoredManifest}
 use Rattle.link_reading.specs.Meaning.{Means, kept, data_at}
 
@@ -28,10 +26,3 @@ FindsTagged files name tag None = (Means files).tags name tag ≡ None
 abbrev pub Knows : State → List ℕ → Bool → Type 0
 Knows state name true = IsKnown state name
 Knows state name false = ¬ IsKnown state name
-
--- the least digest of a manifest of the repository that lists the child, or that none does
-abbrev pub IsLeastParent : State → List ℕ → List ℕ → Option (List ℕ) → Type 0
-IsLeastParent state name child (Some digest) =
-    Lists state name digest child
-    × ((other : List ℕ) → IsTrue (is_lt (slice_cmp nat_cmp other digest)) → ¬ Lists state name other child)
-IsLeastParent state name child None = (digest : List ℕ) → ¬ Lists state name digest child

@@ -5,3 +5,4 @@ pub mod InnerWalks
 pub mod InnerSpots
 pub mod InnerLinks
 pub mod InnerListing
+pub mod InnerPointing

@@ -14,6 +14,7 @@ mod links_below;
 mod listing;
 mod manifests;
 mod parents;
+mod pointing;
 mod repositories;
 mod walk;
 
@@ -27,4 +28,5 @@ pub use listing::tags;
 pub use manifest_doc::MANIFEST_LIMIT;
 pub use manifests::{StoredManifest, manifest, manifest_by_tag, resolve};
 pub use parents::listed_by;
+pub use pointing::tags_to;
 pub use repositories::known;

@@ -69,8 +69,8 @@ fn note(noted: &mut BTreeMap<Digest, bool>, digest: Digest, has: bool) -> Result
     Ok(())
 }
 
-// One more tag.
-fn add(found: &mut Vec<Tag>, tag: Tag) -> Result<(), NoMemory>
+/// One more tag.
+pub fn add(found: &mut Vec<Tag>, tag: Tag) -> Result<(), NoMemory>
     ensures { IfOk result (λ _. found.new.items ≡ found.old.items ++ tag ∷ []) }
 {
     found.push(tag)?;

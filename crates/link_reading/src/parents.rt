@@ -2,8 +2,8 @@
 ghost use Rattle.reg_names.specs.Cause.{OnlyReads};
 ghost use Rattle.reg_names.specs.Refusals.{HasFailed};
 ghost use Rattle.depot_api.specs.Holdings.{Finds};
+ghost use Rattle.reg_entries.specs.State.{IsLeastParent};
 ghost use Rattle.link_reading.specs.Meaning.{Means};
-ghost use Rattle.link_reading.specs.Answers.{IsLeastParent};
 
 use crate::links_below::{Wanted, first_linked};
 use depot_api::Depot;

@@ -7,3 +7,4 @@ pub mod MemberLaws
 pub mod OneDocumentLaws
 pub mod SizeLaws
 pub mod StoredLaws
+pub mod PushedLaws

@@ -7,3 +7,5 @@ pub mod InnerNoting
 pub mod InnerReading
 pub mod OneDocument
 pub mod Stored
+pub mod ContentTypes
+pub mod Pushed

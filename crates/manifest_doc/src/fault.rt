@@ -1,4 +1,6 @@
 //! Why bytes are no document.
+ghost use Rattle.std.specs.Prelude.{◌≡◌};
+
 use reg_names::NoMemory;
 use std::alloc::{AllocError, AllocFailed};
 
@@ -16,6 +18,23 @@ pub enum DocFault {
     TooMany,
     /// Memory was wanting.
     NoMemory,
+}
+
+impl DocFault {
+    ghost use Rattle.manifest_doc.specs.Pushed.{fault_name};
+
+    /// The name of the fault, as a refusal tells it.
+    pub fn name(self) -> &'static str
+        ensures { result.now ≡ fault_name self }
+    {
+        match self {
+            DocFault::NotJson => "NotJson",
+            DocFault::NoKind => "NoKind",
+            DocFault::BadDescriptor => "BadDescriptor",
+            DocFault::TooMany => "TooMany",
+            DocFault::NoMemory => "NoMemory",
+        }
+    }
 }
 
 impl From<NoMemory> for DocFault {

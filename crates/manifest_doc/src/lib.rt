@@ -5,12 +5,14 @@
 //! Specification", and of Docker's manifest schema 2; JSON is RFC 8259.
 #![tactic(auto)]
 
+mod content_type;
 mod descriptors;
 mod document;
 mod fault;
 mod kinds;
 mod laws;
 mod lists;
+mod pushed;
 mod stored;
 
 pub use document::{Doc, read_doc};
@@ -20,5 +22,6 @@ pub use laws::{
     documents_are_computed, documents_pass_the_tests, stored_manifests_are_computed,
     what_is_free_has_urls, what_is_named_is_held,
 };
+pub use pushed::{Judged, Pushed};
 pub use reg_names::{DigestList, Kind, Named, NamedList};
 pub use stored::{MANIFEST_LIMIT, read_stored};

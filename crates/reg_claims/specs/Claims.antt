@@ -18,7 +18,8 @@ number_of (Session number name id) = number
 
 -- one claim, in each of its parts
 abbrev pub is_same : Claim → Claim → Bool
-is_same (Session number name id) (Session other of key) = number == other && pointwise nat_eq name of && pointwise nat_eq id key
+is_same (Session number name id) (Session other of key) =
+    number == other && pointwise nat_eq name of && pointwise nat_eq id key
 
 -- a claim of that session
 abbrev pub is_of_session : List ℕ → List ℕ → Claim → Bool

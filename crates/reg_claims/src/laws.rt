@@ -21,7 +21,8 @@ pub fn making_adds_one_claim()
 
 /// A claim that is ended stands no more, and every other claim stands as before.
 pub fn ending_ends_one_claim()
-    ensures ended { (claims : ClaimList) (claim : Claimed) → has claim (without claim claims) ≡ false }
+    ensures ended { (claims : ClaimList) (claim : Claimed)
+        → has claim (without claim claims) ≡ false }
     ensures others { (claims : ClaimList) (claim other : Claimed)
         → is_same claim other ≡ false → has other (without claim claims) ≡ has other claims }
 {}

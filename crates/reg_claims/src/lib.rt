@@ -1,6 +1,6 @@
 //! Claims: who has a session of an upload for as long as it works on it.
-//! A list of claims promises that no session has two of them, that numbers are drawn rising from 1 and never twice, and
-//! that a claim which was refused changed nothing. Whoever made a claim has to end it: it is no value that may be let go.
+//! A list of claims promises that no session has two of them, that numbers are drawn rising from 1 and never twice,
+//! and that a claim which was refused changed nothing. Whoever made a claim ends it: no such value may be let go.
 //! Whatever works on uploads stands on this crate, and on the words of `specs/Claims.antt` for the claims that stand.
 //! Uploads are those of the OCI Distribution Specification 1.1, "Pushing blobs".
 #![tactic(auto)]

@@ -1,9 +1,11 @@
--- What SHA-256 gives is 32 bytes.
-use Rattle.std.proofs.Common.{ℕ, zero, suc, List, [], ◌∷◌, ◌++◌, arith}
+-- What SHA-256 gives is 32 bytes, and the digest that it gives is that of the bytes.
+use Rattle.std.proofs.Common.{◌≡◌, ℕ, zero, suc, true, List, [], ◌∷◌, ◌++◌, sym, ap, subst, ◌∙◌, arith}
 use Rattle.std.specs.Int.{to_be_bytes, w32}
 use Rattle.std.specs.Prelude.{slice_index}
 use Rattle.sha2.specs.Sha256.{digest_bytes, sha256}
+use Rattle.std.specs.Cmp.Lexicographic.{nat_list_eq_equiv}
 use Rattle.reg_names.specs.Digests.{AreBytes}
+use Rattle.reg_digest.specs.Hashing.{digest_by_sha256, hashes_to}
 
 AreBytes-append : (xs ys : List ℕ) → AreBytes xs → AreBytes ys → AreBytes (xs ++ ys)
 AreBytes-append [] ys h k i = k i
@@ -25,3 +27,10 @@ AreBytes-digest_bytes h (suc n) = AreBytes-append (digest_bytes h n) (to_be_byte
 pub AreBytes-sha256 : (m : List ℕ) → AreBytes (sha256 m)
 unfolding sha256
 AreBytes-sha256 m = AreBytes-digest_bytes _ 8
+
+itself : (bytes : List ℕ) → hashes_to (digest_by_sha256 bytes) bytes ≡ true
+itself bytes = nat_list_eq_equiv.refl (digest_by_sha256 bytes)
+
+-- a digest that was computed is that of the bytes
+pub hashes_by : (digest bytes of : List ℕ) → digest ≡ digest_by_sha256 of → of ≡ bytes → hashes_to digest bytes ≡ true
+hashes_by digest bytes of is same = subst (λ (d : List ℕ). hashes_to d bytes ≡ true) (sym (is ∙ ap digest_by_sha256 same)) (itself bytes)

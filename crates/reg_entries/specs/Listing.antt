@@ -1,7 +1,9 @@
 -- The tags of a repository in byte order, from some text on, and at most so many of them.
-use Rattle.std.specs.Prelude.{◌≡◌, ℕ, zero, Bool, true, List, [], ◌∷◌, length, ◌≤◌, Option, Some, None, IsSome, IfSome, IsTrue, ⊤}
+use Rattle.std.specs.Prelude.{◌≡◌, ◌↔◌, ℕ, zero, nat_eq, Bool, true, List, [], ◌∷◌, length, ◌≤◌, Option, Some, None, IsSome, IfSome, IsTrue, ⊤}
+use Rattle.std.specs.List.{list_any}
+use Rattle.std.specs.List.Sorted.{IsStrictlySortedBy}
 use Rattle.std.specs.Ordering.{nat_cmp, is_lt}
-use Rattle.std.specs.Cmp.Lexicographic.{slice_cmp}
+use Rattle.std.specs.Cmp.Lexicographic.{slice_cmp, pointwise}
 use Rattle.reg_entries.specs.State.{State}
 
 -- the first text is below the second in byte order
@@ -41,3 +43,8 @@ IsListing state name most last tags None =
 IsListing state name most last tags (Some n) =
     AreNextTags state name last tags × ((next : List ℕ) × IsNextTag state name (last_of last tags) (Some next))
     × (most ≡ Some n) × (length tags ≡ n)
+
+-- the tags of the repository that point to a digest, in byte order
+pub record AreTagsTo (state : State) (name digest : List ℕ) (tags : List (List ℕ)) : Type 0 where
+  pub in_order : IsStrictlySortedBy (slice_cmp nat_cmp) tags
+  pub each : (tag : List ℕ) → IsTrue (list_any (pointwise nat_eq tag) tags) ↔ (state.tags name tag ≡ Some digest)

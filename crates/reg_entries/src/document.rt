@@ -1,10 +1,11 @@
 //! What is kept of a manifest.
-ghost use Rattle.std.specs.Prelude.{◌≡◌, ◌↔◌, IsTrue};
+ghost use Rattle.std.specs.Prelude.{◌≡◌, ◌↔◌, IfOk, IsTrue};
 ghost use Rattle.reg_names.specs.Named.{digests_of};
 ghost use Rattle.reg_names.specs.Reading.{ReadsExactly};
 ghost use Rattle.reg_entries.specs.Documents.{IsDigestList, IsKept, kept_of};
 
-use reg_names::{Digest, DigestList, Kind, Named, NamedList};
+use reg_names::{Digest, DigestList, Kind, Named, NamedList, NoMemory};
+use std::alloc::Global;
 use std::marker::Model;
 
 /// The most digests of a list.
@@ -48,6 +49,20 @@ impl Document {
         Some(Document {
             kind,
             size,
+            named,
+            children,
+        })
+    }
+
+    /// An equal document.
+    pub fn copy(&self, alloc: Global) -> Result<Document, NoMemory>
+        ensures { IfOk result (λ d. d ≡ self.now) }
+    {
+        let named = self.named.copy(alloc)?;
+        let children = self.children.copy(alloc)?;
+        Ok(Document {
+            kind: self.kind,
+            size: self.size,
             named,
             children,
         })

@@ -21,8 +21,8 @@ use crate::memory::stage::MemStage;
 use crate::{Bytes, Depot, NoMemory, Path, Refused, Small, Stage, Unplaced};
 use std::alloc::Global;
 
-/// Files in memory. Every call has a number, from 0, but `done` and `shelve`, which cannot fail. A call that fails
-/// makes no change, and a `place` that fails puts the staged bytes back.
+/// Files in memory. Every call has a number, from 0, but `is_lent`, `done` and `shelve`, which cannot fail. A call that
+/// fails makes no change, and a `place` that fails puts the staged bytes back.
 #[derive(Drop)]
 pub struct MemDepot {
     slots: Slots,
@@ -170,6 +170,10 @@ impl Depot for MemDepot {
             return Err(Refused::Failed);
         }
         Ok(self.slots.page(alloc, under, after, most)?)
+    }
+
+    fn is_lent(&self, at: &Path) -> bool {
+        self.slots.is_lent(at)
     }
 
     fn put_small(&mut self, alloc: Global, at: &Path, bytes: &[u8]) -> Result<(), Refused>
