@@ -4,13 +4,14 @@ ghost use Rattle.reg_names.specs.Cause.{OnlyReads};
 ghost use Rattle.reg_names.specs.Refusals.{HasFailed};
 ghost use Rattle.depot_api.specs.Holdings.{Finds};
 ghost use Rattle.link_reading.specs.Meaning.{Means};
-ghost use Rattle.reg_model.specs.Answers.{LacksIn, refusal as refusal_with};
+ghost use Rattle.reg_model.specs.Answers.{LacksIn};
 ghost use Rattle.reg_model.specs.Fits.{IsLacking};
 
+use crate::refusal::refusal;
 use depot_api::Depot;
 use link_reading::known;
+use reg_entries::Reply;
 use reg_entries::numbers::NAME_UNKNOWN;
-use reg_entries::{Detail, No, Reply};
 use reg_names::{Name, Refused};
 use std::alloc::Global;
 
@@ -31,14 +32,4 @@ pub fn lacks<D: Depot>(
     } else {
         Ok(refusal(NAME_UNKNOWN))
     }
-}
-
-/// The refusal with this number, which tells nothing beside it.
-pub fn refusal(number: u8) -> Reply
-    ensures { result ≡ refusal_with number }
-{
-    Reply::Refused(No {
-        number,
-        detail: Detail::Nothing,
-    })
 }

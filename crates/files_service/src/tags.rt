@@ -5,7 +5,7 @@ ghost use Rattle.reg_names.specs.Cause.{OnlyReads};
 ghost use Rattle.reg_entries.specs.declared.ask.Ask.TheVariants as asks;
 ghost use Rattle.files_service.specs.Answers.{IfReplied, HasTrouble, HasFailed};
 
-use crate::lacks::refusal;
+use crate::refusal::refusal;
 use crate::trouble::trouble;
 use depot_api::Depot;
 use link_reading::{known, tags};

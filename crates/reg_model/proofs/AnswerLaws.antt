@@ -17,7 +17,7 @@ some_same x y e = cc e
 
 -- ---- one reply, but for the bytes of a manifest
 
-known_alone : (state : State) (name : List ℕ) (one two : Bool) → IsKnownAs state name one → IsKnownAs state name two → one ≡ two
+pub known_alone : (state : State) (name : List ℕ) (one two : Bool) → IsKnownAs state name one → IsKnownAs state name two → one ≡ two
 known_alone state name true true h k = refl
 known_alone state name true false h k = absurd (k h)
 known_alone state name false true h k = absurd (h k)

@@ -2,3 +2,5 @@ pub mod Facts
 pub mod Answers
 pub mod Fits
 pub mod Blobs
+pub mod Uploads
+pub mod Changing

@@ -1,0 +1,4 @@
+pub mod ShelvingLaws
+pub mod MeetingLaws
+pub mod TakingLaws
+pub mod SealingLaws
