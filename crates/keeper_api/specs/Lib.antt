@@ -1,0 +1,11 @@
+pub mod Rows
+pub mod Fields
+pub mod Tables
+pub mod Changes
+pub mod Slots
+pub mod Memory
+pub mod InnerScans
+pub mod InnerFields
+pub mod InnerEntries
+pub mod InnerTables
+pub mod InnerSlots

@@ -1,0 +1,9 @@
+pub mod MapLaws
+pub mod TouchLaws
+pub mod ChangeLaws
+pub mod KnownLaws
+pub mod ApplyLaws
+pub mod FactLaws
+pub mod LegalLaws
+pub mod ListLaws
+pub mod AnswerLaws
