@@ -2,8 +2,14 @@
 //! prints how many entries were applied. `look` makes in each round, in one of 1,000 repositories, a link, a manifest
 //! that names its blob, and a tag to that, and drops the tag of the round before in that repository: the conditions of
 //! these are looked up. `walk` does the same, and then drops all tags, manifests and links, and condemns each blob:
-//! that takes walks over all that stands. No clause speaks of it; the time is what `bench/entries.sh` tells.
+//! that takes walks over all that stands. What is counted was applied: each entry once, behind those before it. The time
+//! is what `bench/entries.sh` tells.
 #![tactic(auto)]
+
+ghost use Rattle.std.specs.Prelude.{◌≡◌, ◌+◌, IfSome};
+ghost use Rattle.reg_journal.specs.Changes.{apply};
+ghost use Rattle.reg_journal.specs.Past.{Past};
+ghost use Rattle.reg_plain.specs.Held.{IsLeftOf};
 
 use reg_entries::Document;
 use reg_journal::{Entry, What};
@@ -66,7 +72,12 @@ impl Run {
         self.apply_entry(&entry)
     }
 
-    fn apply_entry(&mut self, entry: &Entry) -> Option<()> {
+    // Applies an entry, and counts it.
+    fn apply_entry(&mut self, entry: &Entry) -> Option<()>
+        ensures applied { (past : Past) → IsLeftOf past self.old.state →
+            IfSome result (λ _. IsLeftOf (apply past entry.now) self.new.state) }
+        ensures counted { IfSome result (λ _. self.new.count ≡ self.old.count + 1) }
+    {
         self.state.apply(self.alloc, entry).ok()?;
         self.count = self.count.checked_add(1)?;
         Some(())
