@@ -1,12 +1,14 @@
 -- Paths and their texts.
-use Rattle.std.proofs.Common.{◌≡◌, ℕ, zero, suc, ◌+◌, ◌<◌, ◌≤◌, true, false, eqb, List, [], ◌∷◌, ◌++◌, length, get_or, drop, refl, ap, sym, subst, ◌∙◌, arith, append_assoc}
-use Rattle.std.specs.Prelude.{IsTrue, ◌&&◌, ◌||◌, ◌==◌, nat_le}
+use Rattle.std.proofs.Common.{◌≡◌, ℕ, zero, suc, ◌+◌, ◌<◌, ◌≤◌, Bool, true, false, eqb, List, [], ◌∷◌, ◌++◌, length, get_or, drop, refl, ap, sym, subst, ◌∙◌, arith, append_assoc}
+use Rattle.std.specs.Prelude.{IsTrue, MatchBool, ◌&&◌, ◌||◌, ◌==◌, nat_le}
+use Rattle.std.specs.Str.{IsUtf8, is_utf8}
 use Rattle.std.specs.List.{All, list_all}
 use Rattle.std.proofs.lemmas.Bool.{and_parts, and_from, or_parts, not-true, leb-true, le-leb, false≢true}
+use Rattle.std.proofs.lemmas.Str.{is_utf8-from_IsUtf8, IsUtf8-from_is_utf8}
 use Rattle.std.proofs.lemmas.List.{at_drop_more}
 use Rattle.std.proofs.lemmas.List.Splits.{join_with_byte-slice_split, length-slice_split, slice_split_none, slice_split_at}
 use Rattle.std.proofs.lemmas.List.Elements.{All-nil, All-cons}
-use Rattle.depot_api.specs.Paths.{is_part_byte, is_part, IsPart, parts_of, path_text, IsPath}
+use Rattle.depot_api.specs.Paths.{is_part_byte, is_part, IsPart, parts_of, path_text, is_path, IsPath, is_path_text}
 
 -- a path's tests, each by itself
 record PathTests (p : List (List ℕ)) : Type 0 where
@@ -82,3 +84,18 @@ path_text-pushed rest i text part within is =
     ∙ path_text-joined text part (drop (i + 1) rest)
     ∙ ap (λ (p : List ℕ). path_text (text ∷ p ∷ drop (i + 1) rest)) is
     ∙ sym (at_drop_more (λ (left : List (List ℕ)). path_text (text ∷ left)) rest i part within)
+
+not_from : (b : Bool) → (b ≡ true → ⊥) → b ≡ false
+not_from true h = absurd (h refl)
+not_from false h = refl
+
+-- bytes that are a text are a path's where that text is, and other bytes are none
+pub text_is_path : (bytes text : List ℕ) (r : Bool) → text ≡ bytes → IsUtf8 bytes → MatchBool r (IsPath (parts_of text)) (IsPath (parts_of text) → ⊥) → r ≡ is_path_text bytes
+text_is_path bytes text true same utf8 is =
+    sym (and_from (is_utf8 bytes) (is_path (parts_of bytes)) (is_utf8-from_IsUtf8 bytes utf8) (ap (λ t. is_path (parts_of t)) (sym same) ∙ is))
+text_is_path bytes text false same utf8 no_path =
+    sym (not_from (is_path_text bytes) (λ h. no_path (ap (λ t. is_path (parts_of t)) same ∙ (and_parts (is_utf8 bytes) (is_path (parts_of bytes)) h).1)))
+
+pub bytes_are_none : (bytes : List ℕ) → (IsUtf8 bytes → ⊥) → false ≡ is_path_text bytes
+bytes_are_none bytes none =
+    sym (not_from (is_path_text bytes) (λ h. none (IsUtf8-from_is_utf8 bytes (and_parts (is_utf8 bytes) (is_path (parts_of bytes)) h).0)))

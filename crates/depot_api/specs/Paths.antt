@@ -2,6 +2,7 @@
 use Rattle.std.specs.Prelude.{◌≡◌, ℕ, Bool, not, ◌&&◌, ◌||◌, ◌==◌, nat_le, nat_eq, List, length, codes, Option, Some, None, IsTrue}
 use Rattle.std.specs.declared.cmp.Ordering.{Ordering}
 use Rattle.std.specs.Ordering.{is_eq, is_lt, nat_cmp}
+use Rattle.std.specs.Str.{is_utf8}
 use Rattle.std.specs.List.{list_all, slice_split, join_with_byte, starts_with}
 use Rattle.std.specs.Cmp.Lexicographic.{pointwise, slice_cmp}
 use Rattle.depot_api.specs.Limits.{part_limit, path_limit}
@@ -36,6 +37,10 @@ is_path parts = nat_le 1 (length parts) && list_all is_part parts && nat_le (len
 
 abbrev pub IsPath : List (List ℕ) → Type 0
 IsPath parts = IsTrue (is_path parts)
+
+-- whether bytes are the text of a path
+abbrev pub is_path_text : List ℕ → Bool
+is_path_text bytes = is_utf8 bytes && is_path (parts_of bytes)
 
 -- the order of paths: by parts, and parts by bytes
 abbrev pub path_cmp : List (List ℕ) → List (List ℕ) → Ordering

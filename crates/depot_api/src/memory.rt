@@ -12,6 +12,7 @@ mod source;
 mod stage;
 
 pub use blob::MemBlob;
+pub use calls::Calls;
 pub use clock::FixedClock;
 pub use depot::MemDepot;
 pub use ids::ListedIds;

@@ -1,14 +1,15 @@
 //! Paths of files.
-ghost use Rattle.std.specs.Prelude.{◌≡◌, ◌↔◌, ◌++◌, ℕ, List, IfOk, IsTrue};
+ghost use Rattle.std.specs.Prelude.{◌≡◌, ◌↔◌, ◌++◌, ℕ, List, IfOk, IsTrue, MatchBool};
 ghost use Rattle.std.specs.List.{list_all};
 ghost use Rattle.reg_names.specs.Reading.{ReadsExactly};
-ghost use Rattle.depot_api.specs.Paths.{is_part_byte, is_dots as are_dots, is_part, IsPart, IsPath, ReadsPath, parts_of, path_text, begins_with};
+ghost use Rattle.depot_api.specs.Paths.{is_part_byte, is_dots as are_dots, is_part, IsPart, IsPath, is_path_text, ReadsPath, parts_of, path_text, begins_with};
 
 use crate::{PART_LIMIT, PATH_LIMIT};
 use reg_names::{NoMemory, Text};
 use std::alloc::Global;
 use std::cmp::Ordering;
 use std::marker::Model;
+use std::str;
 
 /// One name of a path: 1 to 255 bytes of UTF-8, no `/`, no NUL, and neither `.` nor `..`.
 #[derive(Debug, Drop, PartialEq, Eq, PartialOrd, Ord)]
@@ -111,6 +112,16 @@ impl Model for Path {
 }
 
 impl Path {
+    /// Whether the bytes are the text of a path. Takes no memory.
+    pub fn admits(bytes: &[u8]) -> bool
+        ensures { result ≡ is_path_text bytes.now }
+    {
+        match str::from_utf8(bytes) {
+            Ok(text) => is_path(text),
+            Err(_) => false,
+        }
+    }
+
     /// The path that a text is, and `None` exactly where it is none.
     pub fn read(alloc: Global, text: &str) -> Result<Option<Path>, NoMemory>
         ensures { IfOk result (ReadsPath text.now) }
@@ -170,6 +181,20 @@ impl Path {
     {
         &self.parts
     }
+}
+
+fn is_path(text: &str) -> bool
+    ensures { MatchBool result (IsPath (parts_of text.now)) (¬ IsPath (parts_of text.now)) }
+{
+    if text.len() > PATH_LIMIT {
+        return false;
+    }
+    for part in text.split('/') {
+        if !is_part_text(part) {
+            return false;
+        }
+    }
+    true
 }
 
 impl PartialEq for Path {

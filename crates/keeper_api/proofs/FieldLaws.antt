@@ -23,7 +23,7 @@ use Rattle.reg_journal.proofs.FieldLaws.{Takes, Reads, bind_some, takes_both, by
 use Rattle.depot_api.specs.Paths.{is_path, parts_of, path_text}
 use Rattle.depot_api.specs.Limits.{path_limit}
 use Rattle.keeper_api.specs.Fields.{ended, counted, IsPathText, Spells}
-use Rattle.keeper_api.specs.InnerScans.{is_path_text}
+use Rattle.depot_api.specs.Paths.{is_path_text}
 use Rattle.keeper_api.specs.InnerFields.{rest_if, rest_of, ended_at, counted_at, is_event, is_kind, strip}
 use Rattle.keeper_api.specs.declared.field.Field.{Field}
 use Rattle.keeper_api.specs.declared.field.Field.TheVariants as field

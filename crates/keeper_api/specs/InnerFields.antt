@@ -7,7 +7,7 @@ use Rattle.std.specs.Int.{w16, w32, w64}
 use Rattle.reg_names.specs.Names.{is_name}
 use Rattle.reg_names.specs.Tags.{is_tag}
 use Rattle.reg_journal.specs.InnerReading.{◌>>=◌, byte_at, number_at, bytes_at, digest_at}
-use Rattle.keeper_api.specs.InnerScans.{is_path_text}
+use Rattle.depot_api.specs.Paths.{is_path_text}
 use Rattle.keeper_api.specs.declared.field.Field.{Field}
 use Rattle.keeper_api.specs.declared.field.Field.TheVariants as field
 

@@ -4,7 +4,6 @@ pub mod Tables
 pub mod Changes
 pub mod Slots
 pub mod Memory
-pub mod InnerScans
 pub mod InnerFields
 pub mod InnerEntries
 pub mod InnerTables

@@ -5,8 +5,8 @@ ghost use Rattle.reg_journal.specs.InnerReading.{byte_at, number_at, bytes_at, t
 ghost use Rattle.keeper_api.specs.InnerFields.{Gives, Passes, ended_at, counted_at, strip, are_fields};
 
 use crate::field::Field;
-use crate::texts::{is_name, is_path_text, is_tag};
-use reg_names::Digest;
+use depot_api::Path;
+use reg_names::{Digest, Name, Tag};
 use std::marker::Model;
 
 /// Bytes of which each call takes a field from the front. Contracts see it as the bytes that are left; where a call
@@ -146,14 +146,14 @@ impl<'b> Cursor<'b> {
             Field::Positive => matches!(self.number(), Some(n) if n >= 1),
             Field::One => matches!(self.number(), Some(n) if n == 1),
             Field::Count => self.half().is_some(),
-            Field::EndedName => matches!(self.ended(), Some(text) if is_name(text)),
-            Field::EndedTag => matches!(self.ended(), Some(text) if is_tag(text)),
+            Field::EndedName => matches!(self.ended(), Some(text) if Name::admits(text)),
+            Field::EndedTag => matches!(self.ended(), Some(text) if Tag::admits(text)),
             Field::Digest => self.digest().is_some(),
             Field::Kind => matches!(self.byte(), Some(n) if 1 <= n && n <= 4),
             Field::Free => matches!(self.byte(), Some(n) if n <= 1),
             Field::Event => matches!(self.byte(), Some(n) if 1 <= n && n <= 18),
             Field::Table => self.byte().is_some(),
-            Field::Path => matches!(self.counted(), Some(text) if is_path_text(text)),
+            Field::Path => matches!(self.counted(), Some(text) if Path::admits(text)),
             Field::Key => self.counted().is_some(),
         }
     }

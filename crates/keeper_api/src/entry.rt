@@ -5,8 +5,7 @@ ghost use Rattle.keeper_api.specs.InnerEntries.{is_behind, item_at, list_passed,
 
 use crate::cursor::Cursor;
 use crate::field::Field;
-use crate::texts::{is_name, is_tag};
-use reg_names::Digest;
+use reg_names::{Digest, Name, Tag};
 
 /// Whether the bytes spell an entry.
 #[tactic(auto, unfolding(crate::specs::InnerEntries::is_entry))]
@@ -43,14 +42,14 @@ impl<'b> Cursor<'b> {
     fn name(&mut self) -> bool
         ensures { Passes result self.new (name_passed self.old) }
     {
-        matches!(self.text(), Some(text) if is_name(text))
+        matches!(self.text(), Some(text) if Name::admits(text))
     }
 
     #[tactic(auto, unfolding(crate::specs::InnerEntries::tag_passed))]
     fn tag(&mut self) -> bool
         ensures { Passes result self.new (tag_passed self.old) }
     {
-        matches!(self.text(), Some(text) if is_tag(text))
+        matches!(self.text(), Some(text) if Tag::admits(text))
     }
 
     #[tactic(auto, unfolding(crate::specs::InnerEntries::spot_passed))]

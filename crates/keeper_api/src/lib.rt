@@ -13,7 +13,6 @@ mod keeper;
 pub mod memory;
 mod row;
 mod tables;
-mod texts;
 
 pub use change::Change;
 pub use keeper::Keeper;

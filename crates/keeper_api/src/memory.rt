@@ -8,13 +8,12 @@ ghost use Rattle.keeper_api.specs.Memory.{no_rows, keeper_kept, keeper_rows, kee
 ghost use Rattle.keeper_api.specs.Rows.{IsAbove, IsNextRow, IsRowAt, IfFound};
 ghost use Rattle.keeper_api.specs.Tables.{Fits};
 
-mod calls;
 mod room;
 mod slots;
 
-use crate::memory::calls::Calls;
 use crate::memory::slots::Slots;
 use crate::{Change, Keeper, Key, Row};
+use depot_api::memory::Calls;
 use reg_names::Refused;
 use std::alloc::Global;
 

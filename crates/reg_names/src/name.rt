@@ -30,12 +30,29 @@ impl Model for Name {
 }
 
 impl Name {
+    /// Whether the bytes are a name's. Takes no memory.
+    pub fn admits(text: &[u8]) -> bool
+        ensures { result ≡ is_name text.now }
+    {
+        if text.len() > NAME_LIMIT {
+            return false;
+        }
+        let mut spot = Spot::Begin;
+        for byte in text {
+            match spot.next(*byte) {
+                Some(next) => spot = next,
+                None => return false,
+            }
+        }
+        matches!(spot, Spot::Inside)
+    }
+
     /// The name that a text is, and `None` exactly where it is none: components of `a` to `z` and digits, with `.`, `_`,
     /// `__` or dashes inside them and `/` between them, at most 255 bytes in all.
     pub fn read(alloc: Global, text: &str) -> Result<Option<Name>, NoMemory>
         ensures { IfOk result (ReadsExactly IsName text.now) }
     {
-        if !is_name_text(text.as_bytes()) {
+        if !Name::admits(text.as_bytes()) {
             return Ok(None);
         }
         let text = Text::from_str(alloc, text)?;
@@ -104,22 +121,6 @@ impl Spot {
             _ => None,
         }
     }
-}
-
-fn is_name_text(text: &[u8]) -> bool
-    ensures { result ≡ is_name text.now }
-{
-    if text.len() > NAME_LIMIT {
-        return false;
-    }
-    let mut spot = Spot::Begin;
-    for byte in text {
-        match spot.next(*byte) {
-            Some(next) => spot = next,
-            None => return false,
-        }
-    }
-    matches!(spot, Spot::Inside)
 }
 
 /// The scan of a name is the grammar by productions.

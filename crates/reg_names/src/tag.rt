@@ -29,11 +29,27 @@ impl Model for Tag {
 }
 
 impl Tag {
+    /// Whether the bytes are a tag's. Takes no memory.
+    pub fn admits(text: &[u8]) -> bool
+        ensures { result ≡ is_tag text.now }
+    {
+        match text.split_first() {
+            Some((first, rest)) => {
+                is_word_byte(*first)
+                    && rest.len() < TAG_LIMIT
+                    && rest
+                        .iter()
+                        .all(|b| is_word_byte(*b) || *b == b'.' || *b == b'-')
+            }
+            None => false,
+        }
+    }
+
     /// The tag that a text is, and `None` exactly where it is none: `[a-zA-Z0-9_][a-zA-Z0-9._-]{0,127}`.
     pub fn read(alloc: Global, text: &str) -> Result<Option<Tag>, NoMemory>
         ensures { IfOk result (ReadsExactly IsTag text.now) }
     {
-        if !is_tag_text(text.as_bytes()) {
+        if !Tag::admits(text.as_bytes()) {
             return Ok(None);
         }
         let text = Text::from_str(alloc, text)?;
@@ -78,19 +94,4 @@ fn is_word_byte(byte: u8) -> bool
     ensures { result ≡ is_word byte }
 {
     byte.is_ascii_alphanumeric() || byte == b'_'
-}
-
-fn is_tag_text(text: &[u8]) -> bool
-    ensures { result ≡ is_tag text.now }
-{
-    match text.split_first() {
-        Some((first, rest)) => {
-            is_word_byte(*first)
-                && rest.len() < TAG_LIMIT
-                && rest
-                    .iter()
-                    .all(|b| is_word_byte(*b) || *b == b'.' || *b == b'-')
-        }
-        None => false,
-    }
 }

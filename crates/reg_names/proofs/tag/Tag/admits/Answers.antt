@@ -4,7 +4,7 @@ use Rattle.std.proofs.lemmas.Iterator.{YieldsList-from_slice}
 use Rattle.std.proofs.lemmas.Iterator.Search.{all_from_yields_List}
 use Rattle.std.proofs.lemmas.Bool.Decides.{nat_tests}
 use Rattle.reg_names.specs.Tags.{is_tag_byte}
-use Rattle.keeper_api.proofs.texts.is_tag.Goals as goal
+use Rattle.reg_names.proofs.tag.Tag.admits.Goals as goal
 
 pub returns-then-rest-lt-TAG_LIMIT : goal.returns-then-rest-lt-TAG_LIMIT
 returns-then-rest-lt-TAG_LIMIT c =

@@ -1,7 +1,7 @@
 use Rattle.std.proofs.Common.{◌≡◌, drop}
 use Rattle.reg_names.specs.Names.{begins}
-use Rattle.keeper_api.specs.InnerScans.{accepts}
-use Rattle.keeper_api.proofs.texts.is_name.Given as goal
+use Rattle.reg_names.specs.InnerScans.{accepts}
+use Rattle.reg_names.proofs.name.Name.admits.Given as goal
 
 -- The text is a name where the bytes to come are accepted from here.
 abbrev pub invariant-loop-byte : goal.invariant-loop-byte

@@ -4,15 +4,15 @@ use Rattle.std.proofs.lemmas.Iterator.Consumers.{YieldsList-turn, YieldsList-end
 use Rattle.std.proofs.lemmas.Iterator.Splits.{YieldsList-from_str_split}
 use Rattle.depot_api.specs.Paths.{IsPath}
 use Rattle.depot_api.proofs.PathLaws.{not_path_from_long, not_path_from_part, IsPath-from_parts}
-use Rattle.keeper_api.proofs.texts.is_path.Goals as goal
+use Rattle.depot_api.proofs.path.is_path.Goals as goal
 
 pub returns-then-text-gt-PATH_LIMIT : goal.returns-then-text-gt-PATH_LIMIT
 returns-then-text-gt-PATH_LIMIT c = not_path_from_long c.args.text.now c.if-text-gt-PATH_LIMIT.true
 
-pub returns-then-not-is_part : goal.returns-then-not-is_part
-returns-then-not-is_part c =
+pub returns-then-not-is_part_text : goal.returns-then-not-is_part_text
+returns-then-not-is_part_text c =
     let turn = YieldsList-turn (YieldsList-from_str_split 47 c.args.text.now (lit< tt) (cc) (cc) (cc)) c.loop-part.yielded _ c.loop-part.yielded_by _ _ c.in-Some.part c.in-Some.is c.next.ensures.steps in
-    not_path_from_part c.args.text.now _ c.in-Some.part.now turn (λ part. false≢true (c.if-not-is_part.ensures ∙ part))
+    not_path_from_part c.args.text.now _ c.in-Some.part.now turn (λ part. false≢true (c.if-not-is_part_text.ensures ∙ part))
 
 pub returns : goal.returns
 returns c =
