@@ -1,0 +1,3 @@
+pub mod MoveLaws
+mod RefusalLaws
+mod BlobLaws

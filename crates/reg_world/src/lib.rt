@@ -5,6 +5,8 @@
 //! Asks and replies are those of the OCI Distribution Specification 1.1, "Endpoints".
 #![tactic(auto)]
 
+mod laws;
 mod world;
 
+pub use laws::{finished_uploads_are_blobs, refusals_change_nothing};
 pub use world::{World, begin};

@@ -14,7 +14,7 @@ use Rattle.reg_entries.specs.declared.reply.Reply.{Reply}
 use Rattle.reg_entries.specs.declared.reply.Reply.TheVariants as replies
 use Rattle.reg_model.specs.Uploads.{met_from}
 use Rattle.upload_sessions.specs.Meeting.{Meets}
-use Rattle.upload_sessions.specs.Taking.{MeetsFrom, ClaimsSession}
+use Rattle.upload_sessions.specs.Taking.{MeetsFrom, ClaimsSession, FindsFree}
 use Rattle.upload_sessions.specs.Troubles.{IsOfDepot}
 use Rattle.reg_entries.specs.declared.trouble.Trouble.{Trouble}
 use Rattle.reg_entries.specs.declared.trouble.Trouble.TheVariants as troubles
@@ -51,3 +51,8 @@ lent_end held claims name id start key ends staged tells from lent =
     let met = from_ok name start from.met key ends from.is in
     let meets = subst (λ (m : Result (List ℕ × ℕ) ℕ). Meets held claims name id m) met from.meets in
     lent.counts (lent.tells ∙ tells) ∙ ap length (lent.bytes tells) ∙ length_or (held.files (upload_data_path name key)) ∙ data_ends held.files name key ends (met_end held claims name id key ends tells meets)
+
+-- where a session is free, numbers may end
+pub finds_free : {A : Type 0} (held : Holding) (claims : ClaimList) (name : List ℕ) (id : Option (List ℕ)) (start : Option ℕ) (met : List ℕ × ℕ) (result : Result A Trouble) → MeetsFrom held claims name id start (Ok met) → FindsFree held claims name id start result
+finds_free held claims name id start met (Err troubles.Full) free = (met, free)
+finds_free held claims name id start met result free = tt

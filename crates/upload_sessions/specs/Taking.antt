@@ -62,6 +62,13 @@ ClaimsSession who before (Ok (Refused reply)) now = now ≡ before
 ClaimsSession who before (Err troubles.Full) now = (is_full before ≡ true) × (now ≡ before)
 ClaimsSession who before (Err trouble) now = MayDraw before now
 
+-- where no number was left for its claim, the session was free
+abbrev pub FindsFree : {A : Type 0} → Holding → ClaimList → List ℕ → Option (List ℕ) → Option ℕ → Result A Trouble
+    → Type 0
+FindsFree held claims name id start (Err troubles.Full) =
+    (met : List ℕ × ℕ) × MeetsFrom held claims name id start (Ok met)
+FindsFree held claims name id start result = ⊤
+
 -- the trouble is one of the depot, or that the next number would pass its limit
 abbrev pub IsOfTake : Trouble → Type 0
 IsOfTake troubles.Keeper = ⊥

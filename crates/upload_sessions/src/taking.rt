@@ -4,7 +4,7 @@ ghost use Rattle.reg_claims.specs.Claims.{claim_of, without};
 ghost use Rattle.depot_api.specs.Changes.{Changes, Shelves};
 ghost use Rattle.reg_model.specs.Uploads.{is_busy, met_from};
 ghost use Rattle.upload_sessions.specs.Troubles.{HasFailed};
-ghost use Rattle.upload_sessions.specs.Taking.{Takes, ClaimsSession, LendsSession, IsFresh, HasTakeTrouble};
+ghost use Rattle.upload_sessions.specs.Taking.{Takes, ClaimsSession, FindsFree, LendsSession, IsFresh, HasTakeTrouble};
 ghost use Rattle.upload_sessions.specs.InnerTaking.{IsOutOf, unless_refused};
 ghost use Rattle.reg_entries.specs.declared.trouble.Trouble.TheVariants as troubles;
 
@@ -29,8 +29,8 @@ pub enum Taken<S> {
 /// back. Else a refusal: the upload does not stand, another request has it, or `start` is told and is not where it ends
 /// (OCI Distribution Specification 1.1, "Pushing a blob in chunks").
 ///
-/// Errors: also `Trouble::Full`, exactly where the number of the next claim would pass its limit. The claims are as
-/// before, but for that number.
+/// Errors: also `Trouble::Full`, exactly where the session is free and the number of the next claim would pass its limit.
+/// The claims are as before, but for that number.
 pub fn take_upload<D: Depot>(
     alloc: Global,
     depot: &mut D,
@@ -42,6 +42,7 @@ pub fn take_upload<D: Depot>(
 ) -> Result<Taken<D::S>, Trouble>
     ensures answer { IfOk result
         (Takes D.S.held (D.held depot.old) claims.old name.now id.now start) }
+    ensures free { FindsFree (D.held depot.old) claims.old name.now id.now start result }
     ensures fresh { IfOk result (IsFresh D.S.faults) }
     ensures claims { ClaimsSession who claims.old result claims.new }
     ensures depot { Changes D.held D.faults depot.old depot.new (LendsSession result)
