@@ -85,7 +85,7 @@ all_before idle = refl
 all_before (began b) = inl refl
 all_before (turned_away n) = refl
 all_before (refused b n) = refl
-all_before (denied p reply) = refl
+all_before (denied p holds reply) = refl
 all_before (served t) = refl
 
 pub refuses_memory : {B : Type 0} (failed : Type 0) (only : Bool) (old new : Option (List ℕ)) (ended : Ended B) → ended ≡ ends.NoMemory → Tries failed old new (memory_wire only)

@@ -1,8 +1,8 @@
 -- A request: its head, and what stands behind it.
-use Rattle.std.proofs.Common.{◌≡◌, ℕ, ◌<◌, ◌≤◌, Bool, false, true, List, [], ◌++◌, Option, Some, None, refl, sym, ap, subst, arith, inl, inr}
+use Rattle.std.proofs.Common.{◌≡◌, ℕ, ◌<◌, ◌≤◌, Bool, false, true, List, [], ◌++◌, Option, Some, None, Ok, Err, refl, sym, ap, subst, arith, inl, inr}
 use Rattle.std.specs.Io.KnownBytes.{Appends}
 use Rattle.std.proofs.KnownBytes.{Appends-nil}
-use Rattle.reg_names.specs.Cause.{HasCause}
+use Rattle.reg_names.specs.Cause.{Rose, HasCause}
 use Rattle.httparse.specs.Grammar.{RequestHead}
 use Rattle.http_wire.specs.declared.head.Head.{Head}
 use Rattle.http_wire.specs.declared.head.Heading.{Heading}
@@ -23,13 +23,15 @@ use Rattle.reg_session.specs.declared.ended.Ended.{Ended}
 use Rattle.reg_session.specs.declared.ended.Ended.TheVariants as ends
 use Rattle.reg_session.specs.declared.ended.Step.{Step}
 use Rattle.reg_session.specs.declared.ended.Step.TheVariants as steps
-use Rattle.reg_session.specs.Requests.{Parts, parts_of, parts_in, head_only, limit_of, body_state, HasHead, ReadsFront}
+use Rattle.reg_session.specs.Requests.{Parts, parts_of, parts_in, head_only, asked_in, body_state, HasHead, ReadsFront}
 use Rattle.reg_session.specs.Sending.{Tries}
 use Rattle.reg_session.specs.Sessions.{here}
-use Rattle.reg_session.specs.Turns.{Hold, Chain}
-use Rattle.reg_session.specs.Works.{Begun, Work, idle, began, turned_away, refused, denied, served, number_of, text_of, Took, EndsWith, EndsOn, EndsBetween, EndsInside, LeavesNothing, IsBefore, WroteMemory, Wrote, before_reply, is_head}
+use Rattle.depot_api.specs.Ids.{Words}
+use Rattle.reg_routes.specs.Routing.{Answer as Asked}
+use Rattle.reg_session.specs.Chains.{Hold, Chain, Own, BringsAll}
+use Rattle.reg_session.specs.Works.{Begun, Work, idle, began, turned_away, refused, denied, served, number_of, text_of, room_in, IsBegun, Leaves, Took, EndsWith, EndsOn, EndsBetween, EndsInside, LeavesNothing, IsBefore, WroteMemory, Wrote, before_reply, is_head}
 use Rattle.reg_session.specs.InnerReplies.{RefusesWith, IfStepBlob}
-use Rattle.reg_session.specs.InnerSteps.{Exchanges, line, TookBehind, IsCutBehind, EndsOnBehind, Behind, Responds, StepCauses, Advances}
+use Rattle.reg_session.specs.InnerSteps.{Exchanges, line, store, TookBehind, IsCutBehind, EndsOnBehind, Behind, Responds, StepCauses, Advances}
 
 -- ---- a head, and what stands behind it
 
@@ -47,9 +49,8 @@ took_head : (p : Parts) (work : Work) (x y z : List ℕ) → HasHead x p y → T
 took_head p idle x y z head took = absurd took
 took_head p (began b) x y z head (is, front) = (y, of_parts p b.parts x y is head, front)
 took_head p (turned_away n) x y z head took = absurd took
-took_head p (refused b n) x y z head (is, inl (large, body)) = inl (large, (y, of_parts p b.parts x y is head, body))
-took_head p (refused b n) x y z head (is, inr (bad, body)) = inr (bad, (y, of_parts p b.parts x y is head, body))
-took_head p (denied q reply) x y z head (is, same) =
+took_head p (refused b n) x y z head (is, bad) = (y, of_parts p b.parts x y is head, bad)
+took_head p (denied q holds reply) x y z head (is, same) =
     subst (λ (r : List ℕ). HasHead x q r) (sym same) (of_parts p q x y is head)
 took_head p (served t) x y z head (is, body) = (y, of_parts p t.request.parts x y is head, body)
 
@@ -58,7 +59,7 @@ cut_head p idle x y z head took cut = absurd cut
 cut_head p (began b) x y z head (is, front) cut = (y, of_parts p b.parts x y is head, cut)
 cut_head p (turned_away n) x y z head took cut = absurd cut
 cut_head p (refused b n) x y z head took cut = absurd cut
-cut_head p (denied q reply) x y z head took cut = absurd cut
+cut_head p (denied q holds reply) x y z head took cut = absurd cut
 cut_head p (served t) x y z head took cut = absurd cut
 
 done_head : (p : Parts) (work : Work) (x y z : List ℕ) → TookBehind p work y z → EndsBetween work x
@@ -66,7 +67,7 @@ done_head p idle x y z took = absurd took
 done_head p (began b) x y z took = tt
 done_head p (turned_away n) x y z took = tt
 done_head p (refused b n) x y z took = tt
-done_head p (denied q reply) x y z took = tt
+done_head p (denied q holds reply) x y z took = tt
 done_head p (served t) x y z took = tt
 
 ends_head : {B : Type 0} (ended : Ended B) (p : Parts) (work : Work) (x y z : List ℕ) → HasHead x p y → TookBehind p work y z
@@ -81,27 +82,29 @@ ends_head ends.Long p work x y z head took on = tt
 ends_head ends.NoMemory p work x y z head took on = tt
 
 -- a request whose head was read
-pub headed : {B : Type 0} (between : Data → Data → Type 0) (failed : Type 0) (head : Head) (w v : Data) (a b c left mid last start new : Option (List ℕ))
+pub headed : {B : Type 0} (between : Data → Data → Type 0) (o : Own) (failed : Type 0) (head : Head) (w v : Data) (before after : Words) (a b c left mid last start new : Option (List ℕ))
     (step : Step B) → OnStream a b (TellsHead (headings.Head head))
-    → Responds between failed (parts_in head) w v (line b mid start) (line c last new) step
-    → Exchanges between failed (here w a left start) (here v c last new) step
-headed between failed head w v a b c left mid last start new steps.Next tells responds =
+    → Responds between o failed (parts_in head) (store w before) (store v after) (line b mid start) (line c last new) step
+    → Exchanges between o failed (here w before a left start) (here v after c last new) step
+headed between o failed head w v before after a b c left mid last start new steps.Next tells responds =
     let (t, same, one) = responds.behind in (
       t,
       record {
         is = one.is;
-        holds = subst (λ (l : List Hold). Chain between w l v) (sym same) responds.chain;
+        holds = subst (λ (l : List Hold). Chain between w l v) (sym same) responds.makes.chain;
+        brings = subst (λ (l : List Hold). BringsAll o before l after) (sym same) responds.makes.brings;
         read = on_then a b c tells one.read (λ x y z p q. took_head (parts_in head) (served t) x y z (has_head head x y p) q);
         wrote = one.wrote;
       },
     )
-headed between failed head w v a b c left mid last start new (steps.Ended ended) tells responds =
+headed between o failed head w v before after a b c left mid last start new (steps.Ended ended) tells responds =
     let (work, same, end) = responds.behind in (
       work,
       record {
         done = end.done;
         ends = end.ends;
-        holds = subst (λ (l : List Hold). Chain between w l v) (sym same) responds.chain;
+        holds = subst (λ (l : List Hold). Chain between w l v) (sym same) responds.makes.chain;
+        brings = subst (λ (l : List Hold). BringsAll o before l after) (sym same) responds.makes.brings;
         read = on_then a b c tells end.read (λ x y z p q.
             let have = has_head head x y p in
             (took_head (parts_in head) work x y z have q.0, ends_head ended (parts_in head) work x y z have q.0 q.1));
@@ -165,18 +168,19 @@ turned_left n (ends.BlobFault blob) left h = tt
 turned_left n ends.Long left h = tt
 turned_left n ends.NoMemory left h = tt
 
-pub turned : {B : Type 0} (between : Data → Data → Type 0) (failed : Type 0) (n : ℕ) (reply : Reply) (w : Data) (a b left last start new : Option (List ℕ)) (ended : Ended B)
+pub turned : {B : Type 0} (between : Data → Data → Type 0) (o : Own) (failed : Type 0) (n : ℕ) (reply : Reply) (w : Data) (words : Words) (a b left last start new : Option (List ℕ)) (ended : Ended B)
     → reply ≡ refusal n → OnStream a b (TellsHead (headings.Bad n)) → RefusesWith (number_of reply) ended
     → ((work : Work) (begin : Option (List ℕ)) → Appends begin start (before_reply work)
     → text_of work ≡ before_reply work ++ wire reply false true → is_head work ≡ false → Wrote failed ended begin new work)
-    → Exchanges between failed (here w a left start) (here w b last new) (steps.Ended ended)
-turned between failed n reply w a b left last start new ended is tells refuses wrote =
+    → Exchanges between o failed (here w words a left start) (here w words b last new) (steps.Ended ended)
+turned between o failed n reply w words a b left last start new ended is tells refuses wrote =
     let so : RefusesWith n ended = subst (λ (r : Reply). RefusesWith (number_of r) ended) is refuses in (
       turned_away n,
       record {
         done = tt;
         ends = turned_end n ended so;
         holds = λ next x. x;
+        brings = refl;
         read = on_same a b tells (λ x y t. (t.0, turned_on n ended x so));
         at_end = turned_left n ended last so;
         wrote = wrote (turned_away n) start (Appends-nil start) (ap (λ (r : Reply). wire r false true) (sym is)) refl;
@@ -228,18 +232,39 @@ turned_causes n source source_now sink sink_now taken faults ended refuses later
   long = λ e. absurd (not_by_length n ended refuses e);
 }
 
+-- ---- the source failed
+
+abbrev stopped : {B : Type 0} → Ended B → Step B
+stopped ended = steps.Ended ended
+
+source_not_sink : {B : Type 0} → stopped {B = B} ends.SourceFault ≡ stopped ends.SinkFault → ⊥
+source_not_sink e = absurd cc
+
+source_not_long : {B : Type 0} → stopped {B = B} ends.SourceFault ≡ stopped ends.Long → ⊥
+source_not_long e = absurd cc
+
+pub source_failed_causes : {B : Type 0} (source source_now sink taken : ℕ) (faults : B → ℕ) → source ≤ source_now → Rose source source_now
+    → StepCauses {B = B} source source_now sink sink taken faults (steps.Ended ends.SourceFault)
+source_failed_causes source source_now sink taken faults later rose = record {
+  source = record { later = later; rose = λ _. rose };
+  sink = record { later = omega arith; rose = λ e. absurd (source_not_sink e) };
+  blob = tt;
+  long = λ e. absurd (source_not_long e);
+}
+
 -- ---- no request was in work
 
-pub ended_idle : {B : Type 0} (between : Data → Data → Type 0) (failed : Type 0) (heading : Heading) (w : Data) (a b left last start new : Option (List ℕ)) (ended : Ended B)
+pub ended_idle : {B : Type 0} (between : Data → Data → Type 0) (o : Own) (failed : Type 0) (heading : Heading) (w : Data) (words : Words) (a b left last start new : Option (List ℕ)) (ended : Ended B)
     → OnStream a b (TellsHead heading) → ((x y : List ℕ) → TellsHead heading x y → (y ≡ x) × EndsOn ended idle x)
     → EndsWith ended idle → LeavesNothing ended idle last → Wrote failed ended start new idle
-    → Exchanges between failed (here w a left start) (here w b last new) (steps.Ended ended)
-ended_idle between failed heading w a b left last start new ended tells on with_idle over wrote = (
+    → Exchanges between o failed (here w words a left start) (here w words b last new) (steps.Ended ended)
+ended_idle between o failed heading w words a b left last start new ended tells on with_idle over wrote = (
   idle,
   record {
     done = tt;
     ends = with_idle;
     holds = λ next x. x;
+    brings = refl;
     read = on_same a b tells on;
     at_end = over;
     wrote = wrote;
@@ -257,12 +282,12 @@ wants failed work start new only is silent took = record {
   reply = subst (λ (o : Bool). Tries failed start new (memory_wire o)) is took;
 }
 
-pub idle_wanting : {B : Type 0} (between : Data → Data → Type 0) (failed : Type 0) (w : Data) (a b left last start new : Option (List ℕ)) (ended : Ended B)
+pub idle_wanting : {B : Type 0} (between : Data → Data → Type 0) (o : Own) (failed : Type 0) (w : Data) (words : Words) (a b left last start new : Option (List ℕ)) (ended : Ended B)
     → ended ≡ ends.NoMemory → OnStream a b (TellsHead headings.NoMemory) → Tries failed start new (memory_wire false)
-    → Exchanges between failed (here w a left start) (here w b last new) (steps.Ended ended)
-idle_wanting {B} between failed w a b left last start new ended is tells took =
-    subst (λ (e : Ended B). Exchanges between failed (here w a left start) (here w b last new) (steps.Ended e)) (sym is)
-    (ended_idle between failed headings.NoMemory w a b left last start new ends.NoMemory tells (λ x y t. (t, tt)) tt tt (wants failed idle start new false refl refl took))
+    → Exchanges between o failed (here w words a left start) (here w words b last new) (steps.Ended ended)
+idle_wanting {B} between o failed w words a b left last start new ended is tells took =
+    subst (λ (e : Ended B). Exchanges between o failed (here w words a left start) (here w words b last new) (steps.Ended e)) (sym is)
+    (ended_idle between o failed headings.NoMemory w words a b left last start new ends.NoMemory tells (λ x y t. (t, tt)) tt tt (wants failed idle start new false refl refl took))
 
 -- ---- memory was wanting once a head was read
 
@@ -270,28 +295,43 @@ front_none : (limit : Option ℕ) (state : BodyState) (x : List ℕ) → ReadsFr
 front_none (Some most) state x = (state, takes_none most state x [] state x refl refl refl)
 front_none None state x = (state, decodes_none state x [] state x refl refl refl)
 
-just_begun : (p : Parts) (a : Option (List ℕ)) → OnStream a a (λ x y. TookBehind p (began (record { parts = p; begin = [] })) x y × Unit {0})
-just_begun p None = tt
-just_begun p (Some x) = ((refl, front_none (limit_of p) (body_state p) x), tt)
+-- a request that was begun, and whose body did not come
+abbrev pub only_begun : Parts → List Hold → Begun
+only_begun p holds = record { parts = p; begin = []; holds = holds }
 
-pub begun_wanting : {B : Type 0} (between : Data → Data → Type 0) (failed : Type 0) (p : Parts) (w : Data) (a left start new : Option (List ℕ)) (only : Bool) (ended : Ended B)
-    → ended ≡ ends.NoMemory → only ≡ head_only p → Tries failed start new (memory_wire only)
-    → Responds between failed p w w (line a left start) (line a left new) (steps.Ended ended)
-begun_wanting {B} between failed p w a left start new only ended is head took =
-    let b : Begun = record { parts = p; begin = [] } in
-    let at : Behind {B = B} failed p (line a left start) (line a left new) [] (steps.Ended ends.NoMemory) = (
+pub just_begun : (p : Parts) (holds : List Hold) (a : Option (List ℕ)) → OnStream a a (λ x y. TookBehind p (began (only_begun p holds)) x y × Unit {0})
+just_begun p holds None = tt
+just_begun p holds (Some x) = ((refl, front_none (room_in (only_begun p holds)) (body_state p) x), tt)
+
+-- no hold was made yet
+pub leaves_none : (asked : Asked) (begin : List ℕ) → Leaves asked begin []
+leaves_none (Ok ask) begin = tt
+leaves_none (Err reply) begin = tt
+
+-- memory was wanting before its body was read
+pub wanting_behind : {B : Type 0} (failed : Type 0) (p : Parts) (holds : List Hold) (a left start new : Option (List ℕ)) (only : Bool) (ended : Ended B)
+    → IsBegun (only_begun p holds) → ended ≡ ends.NoMemory → only ≡ head_only p → Tries failed start new (memory_wire only)
+    → Behind failed p (line a left start) (line a left new) holds (steps.Ended ended)
+wanting_behind {B} failed p holds a left start new only ended begun is head took =
+    let b = only_begun p holds in
+    let at : Behind {B = B} failed p (line a left start) (line a left new) holds (steps.Ended ends.NoMemory) = (
       began b,
       refl,
       record {
-        done = tt;
+        done = begun;
         ends = tt;
-        read = just_begun p a;
+        read = just_begun p holds a;
         at_end = tt;
         wrote = wants failed (began b) start new only head (inr (refl, refl)) took;
       },
     ) in
-    record {
-      holds = [];
-      chain = λ next x. x;
-      behind = subst (λ (e : Ended B). Behind failed p (line a left start) (line a left new) [] (steps.Ended e)) (sym is) at;
-    }
+    subst (λ (e : Ended B). Behind failed p (line a left start) (line a left new) holds (steps.Ended e)) (sym is) at
+
+pub begun_wanting : {B : Type 0} (between : Data → Data → Type 0) (o : Own) (failed : Type 0) (p : Parts) (w : Data) (words : Words) (a left start new : Option (List ℕ)) (only : Bool) (ended : Ended B)
+    → ended ≡ ends.NoMemory → only ≡ head_only p → Tries failed start new (memory_wire only)
+    → Responds between o failed p (store w words) (store w words) (line a left start) (line a left new) (steps.Ended ended)
+begun_wanting between o failed p w words a left start new only ended is head took = record {
+  holds = [];
+  makes = record { chain = λ next x. x; brings = refl };
+  behind = wanting_behind failed p [] a left start new only ended (record { may = tt; leaves = leaves_none (asked_in p) [] }) is head took;
+}

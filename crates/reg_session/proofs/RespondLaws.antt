@@ -1,16 +1,15 @@
 -- What was written of a request whose head was read.
-use Rattle.std.proofs.Common.{◌≡◌, ◌≢◌, ◌≤◌, ℕ, Bool, true, false, ◌&&◌, if◌then◌else◌, List, [], ◌∷◌, ◌++◌, Option, Some, None, Ok, refl, sym, ap, subst, ◌∙◌, append_assoc, inl, inr, ◌⊎◌}
+use Rattle.std.proofs.Common.{◌≡◌, ◌≢◌, ◌≤◌, ℕ, Bool, true, false, ◌&&◌, if◌then◌else◌, List, [], ◌∷◌, ◌++◌, Option, Some, None, Ok, Err, refl, sym, ap, subst, ◌∙◌, append_assoc, inl, inr, ◌⊎◌}
 use Rattle.std.proofs.lemmas.Bool.{false≢true}
 use Rattle.std.specs.Io.KnownBytes.{Appends, IsAtEnd}
 use Rattle.reg_names.specs.Cause.{HasCause}
 use Rattle.std.proofs.KnownBytes.{Appends-nil, Appends-trans}
 use Rattle.http_wire.specs.declared.body.BodyState.{BodyState}
-use Rattle.http_wire.specs.Bodies.{ends_before, is_cut_short, is_malformed}
-use Rattle.http_wire.specs.Filling.{within, is_too_long, takes_none}
+use Rattle.http_wire.specs.Bodies.{ends_before}
+use Rattle.http_wire.specs.Filling.{within}
 use Rattle.http_wire.specs.Flow.{OnStream}
 use Rattle.http_wire.specs.Limits.{feed_limit}
 use Rattle.http_wire.specs.Messages.{ReadsBody}
-use Rattle.http_wire.specs.Reading.{decodes_none}
 use Rattle.http_wire.proofs.StreamLaws.{on_same}
 use Rattle.reg_entries.specs.Numbers as numbers
 use Rattle.reg_entries.specs.declared.ask.Ask.{Ask}
@@ -18,6 +17,7 @@ use Rattle.reg_entries.specs.declared.reply.Reply.{Reply}
 use Rattle.reg_model.specs.Answers.{Answer, plain, refusal}
 use Rattle.reg_replies.specs.Replies.{wire}
 use Rattle.reg_replies.specs.Writing.{TookFront}
+use Rattle.reg_routes.specs.Routing.{Answer as Asked}
 use Rattle.reg_session.specs.Bodies.{Drops}
 use Rattle.reg_session.specs.declared.bodies.Dropped.{Dropped}
 use Rattle.reg_session.specs.declared.bodies.Dropped.TheVariants as dropped
@@ -25,13 +25,20 @@ use Rattle.reg_session.specs.declared.ended.Ended.{Ended}
 use Rattle.reg_session.specs.declared.ended.Ended.TheVariants as ends
 use Rattle.reg_session.specs.declared.ended.Step.{Step}
 use Rattle.reg_session.specs.declared.ended.Step.TheVariants as steps
-use Rattle.reg_session.specs.InnerReplies.{line_for, IfStepBlob, RefusesWith, reply_head, ConcludesSo}
-use Rattle.reg_session.specs.InnerSteps.{Line, line, TookBehind, EndsOnBehind, Behind, BreaksWith, broken, StepCauses}
-use Rattle.reg_session.specs.Requests.{Parts, asked_in, awaits, body_state, head_only, limit_by, limit_of, limit_of_ask, ReadsFront}
+use Rattle.reg_session.specs.InnerReplies.{line_for, IfStepBlob, IsAfterReply, RefusesWith, reply_head, ConcludesSo}
+use Rattle.reg_session.specs.InnerSteps.{Line, line, TookBehind, EndsOnBehind, Behind, BreaksWith, broken, IsKnown, StepCauses}
+use Rattle.reg_session.specs.Requests.{Parts, asked_in, awaits, body_state, head_only, limit_by, limit_of, limit_of_ask}
 use Rattle.reg_session.specs.Sending.{BreaksOff}
-use Rattle.reg_session.specs.Turns.{Hold, Replies, continue_line, goes_on, goes_on_for, MaySendBody, interim, Turn, IsTurn, closes, content, opening, talk}
-use Rattle.reg_session.specs.Works.{Begun, began, refused, denied, served, text_of, before_reply, is_head, IsDenied, EndsWith, LeavesNothing, Wrote, number_of}
+use Rattle.reg_session.specs.Chains.{Hold}
+use Rattle.reg_session.specs.InnerBodies.{DropsFront}
+use Rattle.reg_session.specs.Uploads.{LeavesBy}
+use Rattle.reg_session.specs.Turns.{Replies, RepliesTo, continue_line, goes_on, goes_on_for, NeedsNoSession, LooksFirst, MaySendBody, interim, Turn, IsTurn, closes, content, opening, talk}
+use Rattle.reg_session.specs.Works.{Begun, began, refused, denied, served, text_of, before_reply, is_head, room_by, room_in, IsBadBehind, IsBegun, IsDenied, Leaves, MayHold, EndsWith, LeavesNothing, Wrote, number_of}
 use Rattle.reg_session.proofs.ConcludeLaws.{front_behind}
+use Rattle.reg_session.proofs.ExchangeLaws.{just_begun, later_than, leaves_none, only_begun}
+
+abbrev pub asked_as : Ask → Asked
+asked_as ask = Ok ask
 
 -- ---- the interim reply
 
@@ -39,23 +46,23 @@ use Rattle.reg_session.proofs.ConcludeLaws.{front_behind}
 none_by : (a b : Bool) → a ≡ false → (if a && b then continue_line else []) ≡ []
 none_by a b is = ap (λ x. if x && b then continue_line else []) is
 
-pub none_awaited : (p : Parts) → awaits p ≡ false → interim p ≡ []
-none_awaited p is = none_by (awaits p) (goes_on (asked_in p)) is
+pub none_awaited : (p : Parts) (holds : List Hold) → awaits p ≡ false → interim p holds ≡ []
+none_awaited p holds is = none_by (awaits p) (goes_on (asked_in p) holds) is
 
 silent_by : (a b : Bool) → b ≡ false → (if a && b then continue_line else []) ≡ []
 silent_by true b is = ap (λ x. if x then continue_line else []) is
 silent_by false b is = refl
 
-pub none_said : (p : Parts) → goes_on (asked_in p) ≡ false → interim p ≡ []
-none_said p is = silent_by (awaits p) (goes_on (asked_in p)) is
+pub none_said : (p : Parts) (holds : List Hold) → goes_on (asked_in p) holds ≡ false → interim p holds ≡ []
+none_said p holds is = silent_by (awaits p) (goes_on (asked_in p) holds) is
 
 told_by : (a b : Bool) → b ≡ true → (if a then continue_line else []) ≡ (if a && b then continue_line else [])
 told_by true b is = ap (λ x. if x then continue_line else []) (sym is)
 told_by false b is = refl
 
 -- that of a request that is told to go on
-pub line_is_interim : (p : Parts) → goes_on (asked_in p) ≡ true → line_for p ≡ interim p
-line_is_interim p is = told_by (awaits p) (goes_on (asked_in p)) is
+pub line_is_interim : (p : Parts) (holds : List Hold) → goes_on (asked_in p) holds ≡ true → line_for p ≡ interim p holds
+line_is_interim p holds is = told_by (awaits p) (goes_on (asked_in p) holds) is
 
 -- ---- a body that is refused
 
@@ -63,7 +70,7 @@ pub refused_text : (b : Begun) (p : Parts) (n : ℕ) (reply : Reply) (only : Boo
     → text_of (refused b n) ≡ before_reply (refused b n) ++ wire reply only true
 refused_text b p n reply only parts is head =
     let same : only ≡ head_only b.parts = head ∙ sym (ap head_only parts) in
-    λ i. interim b.parts ++ wire (sym is i) (sym same i) true
+    λ i. interim b.parts b.holds ++ wire (sym is i) (sym same i) true
 
 pub refused_head : (b : Begun) (p : Parts) (n : ℕ) (only : Bool) → b.parts ≡ p → only ≡ head_only p → is_head (refused b n) ≡ only
 refused_head b p n only parts head = ap head_only parts ∙ sym head
@@ -87,25 +94,25 @@ reply_some reply only close = first_some 72 _
 
 -- ---- a request that was denied
 
-module _ {B : Type 0} (failed : Type 0) (p : Parts) (reply : Reply) (stream left before now : Option (List ℕ)) (is : IsDenied p reply) where
-  took_denied : (ended : Ended B) (s : Option (List ℕ)) → ((bytes : List ℕ) → EndsOnBehind ended (denied p reply) bytes)
-      → OnStream s s (λ bytes rest. TookBehind p (denied p reply) bytes rest × EndsOnBehind ended (denied p reply) bytes)
+module _ {B : Type 0} (failed : Type 0) (p : Parts) (holds : List Hold) (reply : Reply) (stream left before now : Option (List ℕ)) (is : IsDenied p holds reply) where
+  took_denied : (ended : Ended B) (s : Option (List ℕ)) → ((bytes : List ℕ) → EndsOnBehind ended (denied p holds reply) bytes)
+      → OnStream s s (λ bytes rest. TookBehind p (denied p holds reply) bytes rest × EndsOnBehind ended (denied p holds reply) bytes)
   took_denied ended None on = tt
   took_denied ended (Some bytes) on = ((refl, refl), on bytes)
 
-  pub denied_behind : (ended : Ended B) → RefusesWith (number_of reply) ended → Wrote failed ended before now (denied p reply)
-      → Behind failed p (line stream left before) (line stream left now) [] (steps.Ended ended)
+  pub denied_behind : (ended : Ended B) → RefusesWith (number_of reply) ended → Wrote failed ended before now (denied p holds reply)
+      → Behind failed p (line stream left before) (line stream left now) holds (steps.Ended ended)
   denied_behind ends.Done ends_so wrote = absurd ends_so
   denied_behind (ends.Refused n) ends_so wrote =
-      (denied p reply, refl, record { done = is; ends = ends_so; read = took_denied (ends.Refused n) stream (λ _. tt); at_end = tt; wrote = wrote })
+      (denied p holds reply, refl, record { done = is; ends = ends_so; read = took_denied (ends.Refused n) stream (λ _. tt); at_end = tt; wrote = wrote })
   denied_behind ends.Cut ends_so wrote = absurd ends_so
   denied_behind ends.SourceFault ends_so wrote = absurd ends_so
   denied_behind ends.SinkFault ends_so wrote =
-      (denied p reply, refl, record { done = is; ends = reply_some reply (head_only p) true; read = took_denied ends.SinkFault stream (λ _. tt); at_end = tt; wrote = wrote })
+      (denied p holds reply, refl, record { done = is; ends = reply_some reply (head_only p) true; read = took_denied ends.SinkFault stream (λ _. tt); at_end = tt; wrote = wrote })
   denied_behind (ends.BlobFault blob) ends_so wrote = absurd ends_so
   denied_behind ends.Long ends_so wrote = absurd ends_so
   denied_behind ends.NoMemory ends_so wrote =
-      (denied p reply, refl, record { done = is; ends = tt; read = took_denied ends.NoMemory stream (λ _. tt); at_end = tt; wrote = wrote })
+      (denied p holds reply, refl, record { done = is; ends = tt; read = took_denied ends.NoMemory stream (λ _. tt); at_end = tt; wrote = wrote })
 
 -- ---- a request that was answered
 
@@ -135,15 +142,15 @@ three_off a mid b x y z said off = record {
 
 -- ---- a request that was answered
 
-pub opening_is : (t : Turn) → opening t ≡ interim t.request.parts ++ reply_head t.request.parts t.answer
+pub opening_is : (t : Turn) → opening t ≡ interim t.request.parts t.holds ++ reply_head t.request.parts t.answer
 opening_is t = refl
 
-pub talk_is : (t : Turn) → talk t ≡ (interim t.request.parts ++ reply_head t.request.parts t.answer) ++ content t.request.parts t.answer
+pub talk_is : (t : Turn) → talk t ≡ (interim t.request.parts t.holds ++ reply_head t.request.parts t.answer) ++ content t.request.parts t.answer
 talk_is t = refl
 
 module _ (failed : Type 0) (t : Turn) (a b : Line) (mid : Option (List ℕ)) (is : IsTurn t)
     (read : OnStream a.bytes b.bytes (λ old new. ReadsBody (limit_of t.request.parts) (body_state t.request.parts) old t.request.body (within (ends_before new))))
-    (said : Appends a.written mid (interim t.request.parts)) where
+    (said : Appends a.written mid (interim t.request.parts t.holds)) where
   ends_turn : {B : Type 0} (ended : Ended B) → EndsWith ended (served t) → LeavesNothing ended (served t) b.left → ((old : List ℕ) → EndsOnBehind ended (served t) old)
       → Wrote failed ended a.written b.written (served t) → Behind failed t.request.parts a b t.holds (steps.Ended ended)
   ends_turn ended so over on wrote =
@@ -153,13 +160,13 @@ module _ (failed : Type 0) (t : Turn) (a b : Line) (mid : Option (List ℕ)) (is
   goes_turn B stays wrote = (t, refl, record { is = (is, stays); read = on_same a.bytes b.bytes read (λ x y r. (refl, r)); wrote = wrote })
 
   all_said : Appends mid b.written (reply_head t.request.parts t.answer ++ content t.request.parts t.answer) → Appends a.written b.written (talk t)
-  all_said took = three_all a.written mid b.written (interim t.request.parts) (reply_head t.request.parts t.answer) (content t.request.parts t.answer) said took
+  all_said took = three_all a.written mid b.written (interim t.request.parts t.holds) (reply_head t.request.parts t.answer) (content t.request.parts t.answer) said took
 
   front_said : TookFront mid b.written (reply_head t.request.parts t.answer ++ content t.request.parts t.answer) → TookFront a.written b.written (talk t)
-  front_said took = three_front a.written mid b.written (interim t.request.parts) (reply_head t.request.parts t.answer) (content t.request.parts t.answer) said took
+  front_said took = three_front a.written mid b.written (interim t.request.parts t.holds) (reply_head t.request.parts t.answer) (content t.request.parts t.answer) said took
 
   off_said : BreaksOff mid b.written (reply_head t.request.parts t.answer) (content t.request.parts t.answer) → BreaksOff a.written b.written (opening t) (content t.request.parts t.answer)
-  off_said off = three_off a.written mid b.written (interim t.request.parts) (reply_head t.request.parts t.answer) (content t.request.parts t.answer) said off
+  off_said off = three_off a.written mid b.written (interim t.request.parts t.holds) (reply_head t.request.parts t.answer) (content t.request.parts t.answer) said off
 
   pub answered_behind : {B : Type 0} (step : Step B) → ConcludesSo failed t.request.parts t.answer mid b.written step → Behind failed t.request.parts a b t.holds step
   answered_behind {B} steps.Next h = goes_turn B h.0 (all_said h.1)
@@ -170,17 +177,9 @@ module _ (failed : Type 0) (t : Turn) (a b : Line) (mid : Option (List ℕ)) (is
   answered_behind (steps.Ended ends.SinkFault) h = ends_turn ends.SinkFault h.0 tt (λ _. tt) (front_said h.1)
   answered_behind (steps.Ended (ends.BlobFault blob)) h = ends_turn (ends.BlobFault blob) (h.0, h.1) tt (λ _. tt) (off_said h.2)
   answered_behind (steps.Ended ends.Long) h = absurd h
-  answered_behind (steps.Ended ends.NoMemory) h = ends_turn ends.NoMemory tt tt (λ _. tt) (record { said = interim t.request.parts; before = refl; mid = mid; took = said; reply = h })
+  answered_behind (steps.Ended ends.NoMemory) h = ends_turn ends.NoMemory tt tt (λ _. tt) (record { said = interim t.request.parts t.holds; before = refl; mid = mid; took = said; reply = h })
 
 -- ---- a request whose body did not come whole
-
--- what was decoded of a body that was dropped
-abbrev DropsFront : Dropped → Option ℕ → BodyState → List ℕ → List ℕ → List ℕ → Type 0
-DropsFront dropped.Whole limit state begin old new = ReadsBody limit state old begin (within (ends_before new))
-DropsFront dropped.TooLong limit state begin old new = ReadsBody limit state old begin is_too_long
-DropsFront dropped.Cut limit state begin old new = ReadsFront limit state old begin new × ReadsBody limit state old begin (within is_cut_short)
-DropsFront dropped.Malformed limit state begin old new = ReadsBody limit state old begin (within is_malformed)
-DropsFront answer limit state begin old new = ReadsFront limit state old begin new
 
 front_by : (d : Dropped) (limit : Option ℕ) (state : BodyState) (x y : List ℕ) → Drops d limit state x y → (begin : List ℕ) × DropsFront d limit state begin x y
 front_by dropped.Whole limit state x y h = h
@@ -200,17 +199,36 @@ front_body d limit state (Some x) (Some y) h = front_by d limit state x y h
 refused_by : (x : List ℕ) (reply : Reply) (only : Bool) (text : List ℕ) → text ≡ x ++ wire reply only true → text ≢ []
 refused_by x reply only text is e = some_behind x (wire reply only true) (reply_some reply only true) (sym is ∙ e)
 
-refused_some : (b : Begun) (n : ℕ) → text_of (refused b n) ≢ []
-refused_some b n = refused_by (interim b.parts) (refusal n) (head_only b.parts) (text_of (refused b n)) refl
+pub refused_some : (b : Begun) (n : ℕ) → text_of (refused b n) ≢ []
+refused_some b n = refused_by (interim b.parts b.holds) (refusal n) (head_only b.parts) (text_of (refused b n)) refl
 
-module _ (failed : Type 0) (b : Begun) (from to : Line) (may : MaySendBody b.parts) where
+-- how the body of a request that was begun broke off
+abbrev pub BreaksHere : Begun → Dropped → List ℕ → List ℕ → Type 0
+BreaksHere b dropped.TooLong old new = IsBadBehind b numbers.body_too_large old
+BreaksHere b d old new = DropsFront d (room_in b) (body_state b.parts) b.begin old new
+
+pub breaks_roomed : (b : Begun) (d : Dropped) (old new : List ℕ) → DropsFront d (room_in b) (body_state b.parts) b.begin old new → BreaksHere b d old new
+breaks_roomed b dropped.TooLong old new h = inl (refl, h)
+breaks_roomed b dropped.Whole old new h = h
+breaks_roomed b dropped.Cut old new h = h
+breaks_roomed b dropped.Malformed old new h = h
+breaks_roomed b dropped.SourceFault old new h = h
+breaks_roomed b dropped.Long old new h = h
+breaks_roomed b dropped.NoMemory old new h = h
+
+-- what may come of it is the limit of the request, where no session was given
+pub breaks_plainly : (b : Begun) (d : Dropped) (old new : List ℕ) → room_by (limit_of b.parts) b.holds ≡ limit_of b.parts
+    → DropsFront d (limit_of b.parts) (body_state b.parts) b.begin old new → BreaksHere b d old new
+breaks_plainly b d old new room h = breaks_roomed b d old new (subst (λ (l : Option ℕ). DropsFront d l (body_state b.parts) b.begin old new) (sym room) h)
+
+module _ (failed : Type 0) (b : Begun) (from to : Line) (is : IsBegun b) (may : MaySendBody b.parts b.holds) where
   ends_refused : {B : Type 0} (n : ℕ) (ended : Ended B) → EndsWith ended (refused b n) → LeavesNothing ended (refused b n) to.left → ((old : List ℕ) → EndsOnBehind ended (refused b n) old)
-      → Wrote failed ended from.written to.written (refused b n) → OnStream from.bytes to.bytes (TookBehind b.parts (refused b n)) → Behind failed b.parts from to [] (steps.Ended ended)
+      → Wrote failed ended from.written to.written (refused b n) → OnStream from.bytes to.bytes (TookBehind b.parts (refused b n)) → Behind failed b.parts from to b.holds (steps.Ended ended)
   ends_refused n ended so over on wrote read =
-      (refused b n, refl, record { done = may; ends = so; read = on_same from.bytes to.bytes read (λ x y r. (r, on x)); at_end = over; wrote = wrote })
+      (refused b n, refl, record { done = record { begun = is; told = inl may }; ends = so; read = on_same from.bytes to.bytes read (λ x y r. (r, on x)); at_end = over; wrote = wrote })
 
   refused_behind : {B : Type 0} (n : ℕ) (ended : Ended B) → RefusesWith n ended → Wrote failed ended from.written to.written (refused b n)
-      → OnStream from.bytes to.bytes (TookBehind b.parts (refused b n)) → Behind failed b.parts from to [] (steps.Ended ended)
+      → OnStream from.bytes to.bytes (TookBehind b.parts (refused b n)) → Behind failed b.parts from to b.holds (steps.Ended ended)
   refused_behind n ends.Done so wrote read = absurd so
   refused_behind n (ends.Refused m) so wrote read = ends_refused n (ends.Refused m) so tt (λ _. tt) wrote read
   refused_behind n ends.Cut so wrote read = absurd so
@@ -222,20 +240,20 @@ module _ (failed : Type 0) (b : Begun) (from to : Line) (may : MaySendBody b.par
 
   -- the session ended with the request begun
   begun_behind : {B : Type 0} (ended told : Ended B) → told ≡ ended → EndsWith ended (began b) → LeavesNothing ended (began b) to.left → Wrote failed told from.written to.written (began b)
-      → OnStream from.bytes to.bytes (λ old new. TookBehind b.parts (began b) old new × EndsOnBehind ended (began b) old) → Behind failed b.parts from to [] (steps.Ended told)
-  begun_behind {B} ended told is so over wrote read =
-      subst (λ (e : Ended B). Behind failed b.parts from to [] (steps.Ended e)) (sym is)
-      (began b, refl, record { done = tt; ends = so; read = read; at_end = over; wrote = subst (λ (e : Ended B). Wrote failed e from.written to.written (began b)) is wrote })
+      → OnStream from.bytes to.bytes (λ old new. TookBehind b.parts (began b) old new × EndsOnBehind ended (began b) old) → Behind failed b.parts from to b.holds (steps.Ended told)
+  begun_behind {B} ended told same so over wrote read =
+      subst (λ (e : Ended B). Behind failed b.parts from to b.holds (steps.Ended e)) (sym same)
+      (began b, refl, record { done = is; ends = so; read = read; at_end = over; wrote = subst (λ (e : Ended B). Wrote failed e from.written to.written (began b)) same wrote })
 
   pub broken_behind : {B : Type 0} (d : Dropped) (ended : Ended B) → BreaksWith d ended → Wrote failed ended from.written to.written (broken b d) → (d ≡ dropped.Cut → IsAtEnd to.left)
-      → OnStream from.bytes to.bytes (DropsFront d (limit_of b.parts) (body_state b.parts) b.begin) → Behind failed b.parts from to [] (steps.Ended ended)
+      → OnStream from.bytes to.bytes (BreaksHere b d) → Behind failed b.parts from to b.holds (steps.Ended ended)
   broken_behind dropped.Whole ended so wrote over read = absurd so
   broken_behind dropped.TooLong ended so wrote over read =
-      refused_behind numbers.body_too_large ended so wrote (on_same from.bytes to.bytes read (λ x y r. (refl, inl (refl, r))))
+      refused_behind numbers.body_too_large ended so wrote (on_same from.bytes to.bytes read (λ x y r. (refl, r)))
   broken_behind dropped.Cut ended so wrote over read =
       begun_behind ends.Cut ended so may (over refl) wrote (on_same from.bytes to.bytes read (λ x y r. ((refl, r.0), r.1)))
   broken_behind dropped.Malformed ended so wrote over read =
-      refused_behind numbers.not_a_request ended so wrote (on_same from.bytes to.bytes read (λ x y r. (refl, inr (refl, r))))
+      refused_behind numbers.not_a_request ended so wrote (on_same from.bytes to.bytes read (λ x y r. (refl, inr (inr (refl, r)))))
   broken_behind dropped.SourceFault ended so wrote over read =
       begun_behind ends.SourceFault ended so may tt wrote (on_same from.bytes to.bytes read (λ x y r. ((refl, r), tt)))
   broken_behind dropped.Long ended so wrote over read =
@@ -246,25 +264,46 @@ module _ (failed : Type 0) (b : Begun) (from to : Line) (may : MaySendBody b.par
 -- ---- a request, by what came of its body
 
 -- nothing is said to one that does not wait
-pub said_nothing : (p : Parts) (written : Option (List ℕ)) → awaits p ≡ false → Appends written written (interim p)
-said_nothing p written quiet = subst (λ (t : List ℕ). Appends written written t) (sym (none_awaited p quiet)) (Appends-nil written)
+pub said_nothing : (p : Parts) (holds : List Hold) (written : Option (List ℕ)) → awaits p ≡ false → Appends written written (interim p holds)
+said_nothing p holds written quiet = subst (λ (t : List ℕ). Appends written written t) (sym (none_awaited p holds quiet)) (Appends-nil written)
 
-module _ {B : Type 0} (failed : Type 0) (p : Parts) (limit : Option ℕ) (a b : Line) (mid : Option (List ℕ)) (limited : limit ≡ limit_of p)
-    (said : Appends a.written mid (interim p)) (may : MaySendBody p) where
-  pub whole_behind : (holds : List Hold) (reply : Reply) (bytes : List ℕ) (step : Step B) → Replies (asked_in p) holds (record { reply = reply; content = bytes })
+module _ {B : Type 0} (failed : Type 0) (p : Parts) (holds : List Hold) (a b : Line) (mid : Option (List ℕ))
+    (said : Appends a.written mid (interim p holds)) (may : MaySendBody p holds) where
+  -- its body was this, and it is answered
+  pub whole_behind : (body : List ℕ) (reply : Reply) (bytes : List ℕ) (step : Step B) → Replies (asked_in p) body holds (record { reply = reply; content = bytes })
+      → OnStream a.bytes b.bytes (λ old new. ReadsBody (limit_of p) (body_state p) old body (within (ends_before new)))
+      → ConcludesSo failed p (record { reply = reply; content = bytes }) mid b.written step → Behind failed p a b holds step
+  whole_behind body reply bytes step replies read so =
+      answered_behind failed (record { request = record { parts = p; body = body }; holds = holds; answer = record { reply = reply; content = bytes } }) a b mid
+      (record { replies_so = replies; told = may }) read said step so
+
+  -- the same of a body that was dropped
+  pub dropped_behind : (limit : Option ℕ) (reply : Reply) (bytes : List ℕ) (step : Step B) → limit ≡ limit_of p
+      → ((body : List ℕ) → Replies (asked_in p) body holds (record { reply = reply; content = bytes }))
       → OnStream a.bytes b.bytes (Drops dropped.Whole limit (body_state p))
       → ConcludesSo failed p (record { reply = reply; content = bytes }) mid b.written step → Behind failed p a b holds step
-  whole_behind holds reply bytes step replies read so =
+  dropped_behind limit reply bytes step limited replies read so =
       let body = whole_body (limit_of p) (body_state p) a.bytes b.bytes (subst (λ (l : Option ℕ). OnStream a.bytes b.bytes (Drops dropped.Whole l (body_state p))) limited read) in
-      answered_behind failed (record { request = record { parts = p; body = body.0 }; holds = holds; answer = record { reply = reply; content = bytes } }) a b mid
-      (record { replies_so = replies; told = may }) body.1 said step so
+      whole_behind body.0 reply bytes step (replies body.0) body.1 so
 
-  pub cut_behind : (d : Dropped) (ended : Ended B) → OnStream a.bytes b.bytes (Drops d limit (body_state p)) → BreaksWith d ended
-      → ((begun : Begun) (start : Option (List ℕ)) → begun.parts ≡ p → Appends start mid (interim begun.parts) → Wrote failed ended start b.written (broken begun d))
-      → (d ≡ dropped.Cut → IsAtEnd b.left) → Behind failed p a b [] (steps.Ended ended)
-  cut_behind d ended read so wrote over =
+  -- it broke off, with this front
+  pub front_behind_it : (begin : List ℕ) (d : Dropped) (ended : Ended B) → IsBegun (record { parts = p; begin = begin; holds = holds })
+      → OnStream a.bytes b.bytes (BreaksHere (record { parts = p; begin = begin; holds = holds }) d) → BreaksWith d ended
+      → ((begun : Begun) (start : Option (List ℕ)) → begun.parts ≡ p → Appends start mid (interim begun.parts begun.holds) → Wrote failed ended start b.written (broken begun d))
+      → (d ≡ dropped.Cut → IsAtEnd b.left) → Behind failed p a b holds (steps.Ended ended)
+  front_behind_it begin d ended is read so wrote over =
+      let begun : Begun = record { parts = p; begin = begin; holds = holds } in
+      broken_behind failed begun a b is may d ended so (wrote begun a.written refl said) over read
+
+  pub cut_behind : (limit : Option ℕ) (d : Dropped) (ended : Ended B) → limit ≡ limit_of p → room_by (limit_of p) holds ≡ limit_of p → MayHold p holds
+      → ((begin : List ℕ) → Leaves (asked_in p) begin holds) → OnStream a.bytes b.bytes (Drops d limit (body_state p)) → BreaksWith d ended
+      → ((begun : Begun) (start : Option (List ℕ)) → begun.parts ≡ p → Appends start mid (interim begun.parts begun.holds) → Wrote failed ended start b.written (broken begun d))
+      → (d ≡ dropped.Cut → IsAtEnd b.left) → Behind failed p a b holds (steps.Ended ended)
+  cut_behind limit d ended limited room held leaves read so wrote over =
       let front = front_body d (limit_of p) (body_state p) a.bytes b.bytes (subst (λ (l : Option ℕ). OnStream a.bytes b.bytes (Drops d l (body_state p))) limited read) in
-      broken_behind failed (record { parts = p; begin = front.0 }) a b may d ended so (wrote (record { parts = p; begin = front.0 }) a.written refl said) over front.1
+      let begun : Begun = record { parts = p; begin = front.0; holds = holds } in
+      front_behind_it front.0 d ended (record { may = held; leaves = leaves front.0 })
+      (on_same a.bytes b.bytes front.1 (λ x y r. breaks_plainly begun d x y room r)) so wrote over
 
 -- ---- causes
 
@@ -323,47 +362,92 @@ broken_causes source source_now sink sink_now taken faults d ended so read long 
   long = λ is. long (was_long d ended so is);
 }
 
--- a request whose refusal is known makes no hold, and its refusal has no blob behind it
-pub known_replies : (p : Parts) (reply : Reply) (bytes : List ℕ) → Replies (asked_in p) [] (plain reply) → bytes ≡ [] → Replies (asked_in p) [] (record { reply = reply; content = bytes })
-known_replies p reply bytes replies none = subst (λ (c : List ℕ). Replies (asked_in p) [] (record { reply = reply; content = c })) (sym none) replies
+-- the same of a reply that was written, to a request that was told to go on before
+not_of_source : {B : Type 0} (step : Step B) → IsAfterReply step → step ≡ steps.Ended ends.SourceFault → ⊥
+not_of_source {B} step after is = subst (λ (s : Step B). IsAfterReply s) is after
 
-pub not_told : (p : Parts) → awaits p ≡ false → MaySendBody p
-not_told p quiet waits = absurd (false≢true (sym quiet ∙ waits))
+not_of_length : {B : Type 0} (step : Step B) → IsAfterReply step → step ≡ steps.Ended ends.Long → ⊥
+not_of_length {B} step after is = subst (λ (s : Step B). IsAfterReply s) is after
+
+pub concluded_causes : {B : Type 0} (source source_now sink mid sink_now taken : ℕ) (faults : B → ℕ) (step : Step B) → source ≤ source_now → sink ≤ mid
+    → HasCause mid sink_now (step ≡ steps.Ended ends.SinkFault) → IfStepBlob faults step → IsAfterReply step → StepCauses source source_now sink sink_now taken faults step
+concluded_causes source source_now sink mid sink_now taken faults step read said wrote blob after = record {
+  source = record { later = read; rose = λ is. absurd (not_of_source step after is) };
+  sink = later_than sink mid sink_now (step ≡ steps.Ended ends.SinkFault) said wrote;
+  blob = blob;
+  long = λ is. absurd (not_of_length step after is);
+}
+
+-- the body of a request that was dropped, by the limit of the request
+pub body_dropped : (p : Parts) (limit : Option ℕ) (a b : Option (List ℕ)) → limit ≡ limit_of p → OnStream a b (Drops dropped.Whole limit (body_state p))
+    → (body : List ℕ) × OnStream a b (λ old new. ReadsBody (limit_of p) (body_state p) old body (within (ends_before new)))
+body_dropped p limit a b limited read =
+    whole_body (limit_of p) (body_state p) a b (subst (λ (l : Option ℕ). OnStream a b (Drops dropped.Whole l (body_state p))) limited read)
+
+-- a refusal that is routed is known
+pub routed_known : (p : Parts) (reply : Reply) → asked_in p ≡ Err reply → IsKnown p [] reply
+routed_known p reply asked = record {
+  silent = ap (λ a. goes_on a []) asked;
+  looks = subst NeedsNoSession (sym asked) tt;
+  may = tt;
+  room = refl;
+  replies_so = λ body. subst (λ a. Replies a body [] (plain reply)) (sym asked) refl;
+  leaves = λ begin. leaves_none (asked_in p) begin;
+}
+
+pub known_begun : (p : Parts) (holds : List Hold) (reply : Reply) (begin : List ℕ) → IsKnown p holds reply → IsBegun (record { parts = p; begin = begin; holds = holds })
+known_begun p holds reply begin known = record { may = known.may; leaves = known.leaves begin }
+
+-- no blob is behind a refusal
+pub known_replies : (p : Parts) (holds : List Hold) (reply : Reply) (bytes : List ℕ) → ((body : List ℕ) → Replies (asked_in p) body holds (plain reply)) → bytes ≡ []
+    → (body : List ℕ) → Replies (asked_in p) body holds (record { reply = reply; content = bytes })
+known_replies p holds reply bytes replies none body = subst (λ (c : List ℕ). Replies (asked_in p) body holds (record { reply = reply; content = c })) (sym none) (replies body)
+
+pub not_told : (p : Parts) (holds : List Hold) → LooksFirst (asked_in p) holds → awaits p ≡ false → MaySendBody p holds
+not_told p holds looks quiet = record { looks = looks; told = λ waits. absurd (false≢true (sym quiet ∙ waits)) }
+
+pub looks_first : (asked : Asked) (holds : List Hold) → NeedsNoSession asked → LooksFirst asked holds
+looks_first asked [] none = none
+looks_first asked (h ∷ holds) none = tt
+
+-- the body of an ask that adds to no upload may come, where it is told to go on
+pub may_come : (p : Parts) (ask : Ask) (holds : List Hold) → asked_in p ≡ Ok ask → NeedsNoSession (asked_as ask) → goes_on (asked_in p) holds ≡ true → MaySendBody p holds
+may_come p ask holds asked none goes = record { looks = looks_first (asked_in p) holds (subst NeedsNoSession (sym asked) none); told = λ _. goes }
 
 -- ---- an ask that is answered behind its body
 
-reads_nothing : (limit : Option ℕ) (state : BodyState) (bytes : List ℕ) → ReadsFront limit state bytes [] bytes
-reads_nothing (Some most) state bytes = (state, takes_none most state bytes [] state bytes refl refl refl)
-reads_nothing None state bytes = (state, decodes_none state bytes [] state bytes refl refl refl)
-
-stream_stays : (p : Parts) (s : Option (List ℕ)) → OnStream s s (λ old new. TookBehind p (began (record { parts = p; begin = [] })) old new × Unit {0})
-stream_stays p None = tt
-stream_stays p (Some bytes) = ((refl, reads_nothing (limit_of p) (body_state p) bytes), tt)
-
-awaited_some : (p : Parts) → awaits p ≡ true → goes_on (asked_in p) ≡ true → interim p ≢ []
-awaited_some p waits goes e = cc (ap (λ a. if a then continue_line else []) (sym waits) ∙ line_is_interim p goes ∙ e)
+awaited_some : (p : Parts) (holds : List Hold) → awaits p ≡ true → goes_on (asked_in p) holds ≡ true → interim p holds ≢ []
+awaited_some p holds waits goes e = cc (ap (λ a. if a then continue_line else []) (sym waits) ∙ line_is_interim p holds goes ∙ e)
 
 -- the sink failed at the interim reply
-pub unsaid_behind : {B : Type 0} (failed : Type 0) (p : Parts) (stream left old new : Option (List ℕ)) → awaits p ≡ true → goes_on (asked_in p) ≡ true → TookFront old new (line_for p)
-    → Behind {B = B} failed p (line stream left old) (line stream left new) [] (steps.Ended ends.SinkFault)
-unsaid_behind failed p stream left old new waits goes took = (
-  began (record { parts = p; begin = [] }),
+pub unsaid_behind : {B : Type 0} (failed : Type 0) (p : Parts) (holds : List Hold) (stream left old new : Option (List ℕ)) → IsBegun (only_begun p holds)
+    → awaits p ≡ true → goes_on (asked_in p) holds ≡ true → TookFront old new (line_for p)
+    → Behind {B = B} failed p (line stream left old) (line stream left new) holds (steps.Ended ends.SinkFault)
+unsaid_behind failed p holds stream left old new is waits goes took = (
+  began (only_begun p holds),
   refl,
   record {
-    done = tt;
-    ends = awaited_some p waits goes;
-    read = stream_stays p stream;
+    done = is;
+    ends = awaited_some p holds waits goes;
+    read = just_begun p holds stream;
     at_end = tt;
-    wrote = subst (λ (t : List ℕ). TookFront old new t) (line_is_interim p goes) took;
+    wrote = subst (λ (t : List ℕ). TookFront old new t) (line_is_interim p holds goes) took;
   },
 )
 
 -- what an ask says of its request
-pub ask_goes : (p : Parts) (ask : Ask) → asked_in p ≡ Ok ask → goes_on_for ask ≡ true → goes_on (asked_in p) ≡ true
-ask_goes p ask asked told = ap goes_on asked ∙ told
+pub ask_goes : (p : Parts) (ask : Ask) (holds : List Hold) → asked_in p ≡ Ok ask → goes_on_for ask holds ≡ true → goes_on (asked_in p) holds ≡ true
+ask_goes p ask holds asked told = ap (λ a. goes_on a holds) asked ∙ told
 
 pub ask_limits : (p : Parts) (ask : Ask) → asked_in p ≡ Ok ask → Some (limit_of_ask ask) ≡ limit_of p
 ask_limits p ask asked = ap limit_by (sym asked)
 
-pub ask_replies : (p : Parts) (ask : Ask) (holds : List Hold) (answer : Answer) → asked_in p ≡ Ok ask → Replies (Ok ask) holds answer → Replies (asked_in p) holds answer
-ask_replies p ask holds answer asked replies = subst (λ a. Replies a holds answer) (sym asked) replies
+pub ask_replies : (p : Parts) (ask : Ask) (body : List ℕ) (holds : List Hold) (answer : Answer) → asked_in p ≡ Ok ask → RepliesTo ask body holds answer → Replies (asked_in p) body holds answer
+ask_replies p ask body holds answer asked replies = subst (λ a. Replies a body holds answer) (sym asked) replies
+
+pub ask_leaves : (p : Parts) (ask : Ask) (begin : List ℕ) (holds : List Hold) → asked_in p ≡ Ok ask → LeavesBy ask begin holds → Leaves (asked_in p) begin holds
+ask_leaves p ask begin holds asked leaves = subst (λ a. Leaves a begin holds) (sym asked) leaves
+
+-- nothing was held, and the ask is no upload's
+pub begun_plainly : (p : Parts) (begin : List ℕ) → IsBegun (record { parts = p; begin = begin; holds = [] })
+begun_plainly p begin = record { may = tt; leaves = leaves_none (asked_in p) begin }

@@ -14,12 +14,15 @@ use Rattle.reg_session.specs.declared.ended.Ended.TheVariants as ends
 use Rattle.reg_session.specs.declared.ended.Step.{Step}
 use Rattle.reg_session.specs.declared.ended.Step.TheVariants as steps
 use Rattle.reg_session.specs.Requests.{ReadsRequest, Reads}
-use Rattle.reg_session.specs.Turns.{Hold, Chain, Turn, talk}
+use Rattle.depot_api.specs.Ids.{Words}
+use Rattle.reg_session.specs.Chains.{Hold, Chain, Own, BringsAll}
+use Rattle.reg_session.specs.Turns.{Turn, talk}
 use Rattle.reg_session.specs.Sending.{Tries}
 use Rattle.reg_session.specs.Works.{Work, idle, Took, WroteMemory}
 use Rattle.reg_session.specs.Sessions.{At, here, IsServed, Serves, EndsBy, IfBlobFault, GaveMany, Causes}
 use Rattle.reg_session.specs.InnerReplies.{IfStepBlob}
 use Rattle.reg_session.specs.InnerSteps.{ServesOne, StepCauses}
+use Rattle.reg_session.proofs.ChainLaws.{chain_then, brings_then}
 use Rattle.reg_session.proofs.ConcludeLaws.{wrote_before}
 use Rattle.reg_session.proofs.ExchangeLaws.{later_than}
 
@@ -33,30 +36,19 @@ flat_more : {A B : Type 0} (f : A → List B) (xs : List A) (x : A) → flat_map
 flat_more f [] x = append-nil (f x)
 flat_more {A} {B} f (y ∷ xs) x = ap (λ (l : List B). f y ++ l) (flat_more f xs x) ∙ sym (append_assoc (f y) (flat_map f xs) (f x))
 
--- the same from what may be followed by more
-chain_from : (between : Data → Data → Type 0) (w u v : Data) (holds : List Hold)
-    → ((next : Data) → between u next → between w next) → Chain between u holds v → Chain between w holds v
-chain_from between w u v [] follows chain = λ next x. follows next (chain next x)
-chain_from between w u v (h ∷ holds) follows chain = (follows h.found chain.0, chain.1, chain.2)
-
--- chains one behind the other
-pub chain_then : (between : Data → Data → Type 0) (w u v : Data) (first second : List Hold)
-    → Chain between w first u → Chain between u second v → Chain between w (first ++ second) v
-chain_then between w u v [] second follows more = chain_from between w u v second follows more
-chain_then between w u v (h ∷ first) second chain more =
-    (chain.0, chain.1, chain_then between h.left u v first second chain.2 more)
-
 reads_more : (turns : List Turn) (t : Turn) (x y z : List ℕ) → Reads (map (λ (u : Turn). u.request) turns) x y
     → ReadsRequest y t.request z → Reads (map (λ (u : Turn). u.request) (turns ++ t ∷ [])) x z
 reads_more [] t x y z is one = (z, subst (λ (b : List ℕ). ReadsRequest b t.request z) is one, refl)
 reads_more (u ∷ turns) t x y z reads one = (reads.0, reads.1, reads_more turns t reads.0 y z reads.2 one)
 
-pub serves_more : (between : Data → Data → Type 0) (a b c : At) (turns : List Turn) (t : Turn)
-    → Serves between a b turns → ServesOne between b c t → Serves between a c (turns ++ t ∷ [])
-serves_more between a b c turns t so_far one = record {
+pub serves_more : (between : Data → Data → Type 0) (o : Own) (a b c : At) (turns : List Turn) (t : Turn)
+    → Serves between o a b turns → ServesOne between o b c t → Serves between o a c (turns ++ t ∷ [])
+serves_more between o a b c turns t so_far one = record {
   each = all_more IsServed turns t so_far.each one.is;
   holds = subst (λ (l : List Hold). Chain between a.world l c.world) (sym (flat_more (λ (u : Turn). u.holds) turns t))
       (chain_then between a.world b.world c.world (flat_map (λ (u : Turn). u.holds) turns) t.holds so_far.holds one.holds);
+  brings = subst (λ (l : List Hold). BringsAll o a.words l c.words) (sym (flat_more (λ (u : Turn). u.holds) turns t))
+      (brings_then o a.words b.words c.words (flat_map (λ (u : Turn). u.holds) turns) t.holds so_far.brings one.brings);
   read = on_then a.bytes b.bytes c.bytes so_far.read one.read (λ x y z p q. reads_more turns t x y z p q);
   wrote = subst (λ (l : List ℕ). Appends a.written c.written l) (sym (flat_more talk turns t))
       (Appends-trans a.written b.written c.written (flat_map talk turns) (talk t) so_far.wrote one.wrote);
@@ -66,14 +58,14 @@ reads_none : (bytes : Option (List ℕ)) → OnStream bytes bytes (Reads [])
 reads_none None = tt
 reads_none (Some x) = refl
 
-pub serves_none : (between : Data → Data → Type 0) (w : Data) (bytes left written : Option (List ℕ))
-    → Serves between (here w bytes left written) (here w bytes left written) []
-serves_none between w bytes left written =
-    record { each = tt; holds = λ next x. x; read = reads_none bytes; wrote = Appends-nil written }
+pub serves_none : (between : Data → Data → Type 0) (o : Own) (w : Data) (words : Words) (bytes left written : Option (List ℕ))
+    → Serves between o (here w words bytes left written) (here w words bytes left written) []
+serves_none between o w words bytes left written =
+    record { each = tt; holds = λ next x. x; brings = refl; read = reads_none bytes; wrote = Appends-nil written }
 
 -- the requests so far
-abbrev pub SoFar : (Data → Data → Type 0) → At → At → Type 0
-SoFar between old new = (turns : List Turn) × Serves between old new turns
+abbrev pub SoFar : (Data → Data → Type 0) → Own → At → At → Type 0
+SoFar between o old new = (turns : List Turn) × Serves between o old new turns
 
 -- ---- an empty feed
 
@@ -118,12 +110,13 @@ session_causes {B} source mid_source source_now sink mid_sink sink_now given giv
     }
 
 -- a sink that failed since then failed since earlier
-pub ends_before : {B : Type 0} (between : Data → Data → Type 0) (failed since : Type 0) (old new : At) (ended : Ended B) (work : Work) → (failed → since)
-    → EndsBy between failed old new ended work → EndsBy between since old new ended work
-ends_before between failed since old new ended work earlier h = record {
+pub ends_before : {B : Type 0} (between : Data → Data → Type 0) (o : Own) (failed since : Type 0) (old new : At) (ended : Ended B) (work : Work) → (failed → since)
+    → EndsBy between o failed old new ended work → EndsBy between o since old new ended work
+ends_before between o failed since old new ended work earlier h = record {
   done = h.done;
   ends = h.ends;
   holds = h.holds;
+  brings = h.brings;
   read = h.read;
   at_end = h.at_end;
   wrote = wrote_before failed since ended old.written new.written work earlier h.wrote;
@@ -138,16 +131,17 @@ took_idle (Some x) = (refl, tt)
 wrote_idle : (failed : Type 0) (start new : Option (List ℕ)) → Tries failed start new (memory_wire false) → WroteMemory failed start new idle
 wrote_idle failed start new took = record { said = []; before = refl; mid = start; took = Appends-nil start; reply = took }
 
-pub idle_wants : {B : Type 0} (between : Data → Data → Type 0) (failed : Type 0) (w : Data) (bytes left start new : Option (List ℕ)) (ended : Ended B)
+pub idle_wants : {B : Type 0} (between : Data → Data → Type 0) (o : Own) (failed : Type 0) (w : Data) (words : Words) (bytes left start new : Option (List ℕ)) (ended : Ended B)
     → ended ≡ ends.NoMemory → Tries failed start new (memory_wire false)
-    → EndsBy between failed (here w bytes left start) (here w bytes left new) ended idle
-idle_wants {B} between failed w bytes left start new ended is took =
-    let at : EndsBy {B = B} between failed (here w bytes left start) (here w bytes left new) ends.NoMemory idle = record {
+    → EndsBy between o failed (here w words bytes left start) (here w words bytes left new) ended idle
+idle_wants {B} between o failed w words bytes left start new ended is took =
+    let at : EndsBy {B = B} between o failed (here w words bytes left start) (here w words bytes left new) ends.NoMemory idle = record {
       done = tt;
       ends = tt;
       holds = λ next x. x;
+      brings = refl;
       read = took_idle bytes;
       at_end = tt;
       wrote = wrote_idle failed start new took;
     } in
-    subst (λ (e : Ended B). EndsBy between failed (here w bytes left start) (here w bytes left new) e idle) (sym is) at
+    subst (λ (e : Ended B). EndsBy between o failed (here w words bytes left start) (here w words bytes left new) e idle) (sym is) at

@@ -1,5 +1,5 @@
 -- An input has one text.
-use Rattle.std.proofs.Common.{◌≡◌, ℕ, ◌≤◌, Bool, true, false, ◌||◌, List, [], ◌∷◌, ◌++◌, map, Option, None, Some, refl, sym, ap, subst, ◌∙◌, append_assoc, arith}
+use Rattle.std.proofs.Common.{◌≡◌, ℕ, true, List, [], ◌∷◌, ◌++◌, map, Option, None, Some, refl, sym, ap, subst, ◌∙◌, append_assoc}
 use Rattle.std.specs.Prelude.{IsTrue, flat_map}
 use Rattle.std.specs.List.{AllByRecursion}
 use Rattle.std.proofs.lemmas.Bool.{false≢true}
@@ -7,115 +7,148 @@ use Rattle.std.specs.Io.KnownBytes.{Appends}
 use Rattle.std.proofs.KnownBytes.{Appends-trans}
 use Rattle.reg_names.specs.Cause.{Rose}
 use Rattle.depot_api.specs.Holdings.{Holding}
-use Rattle.files_service.specs.Facts.{facts_of}
+use Rattle.depot_api.specs.Ids.{Words}
 use Rattle.http_wire.specs.Bodies.{ends_before}
 use Rattle.http_wire.specs.Filling.{within}
 use Rattle.http_wire.specs.Flow.{OnStream}
-use Rattle.reg_model.specs.Answers.{Answer}
-use Rattle.reg_world.specs.Worlds.{Data, facts}
+use Rattle.http_wire.proofs.MessageLaws.{rest_behind}
+use Rattle.reg_world.specs.Worlds.{Data}
 use Rattle.reg_session.specs.declared.ended.Ended.{Ended}
 use Rattle.reg_session.specs.declared.ended.Ended.TheVariants as ends
+use Rattle.reg_session.specs.Chains.{Hold, Chain, own, BringsAll}
 use Rattle.reg_session.specs.Requests.{Parts, asked_in, is_last, ReadsRequest, Reads}
-use Rattle.reg_session.specs.Turns.{Hold, Chain, Turn, closes, wants_memory, talk}
+use Rattle.reg_session.specs.Turns.{Turn, wants_memory, talk}
 use Rattle.reg_session.specs.Works.{Work, holds_of, text_of, IsWork, Took, EndsWith, EndsOn, Wrote}
 use Rattle.reg_session.specs.Sessions.{At, here, IsServed, EndsByInput, FollowsInput}
-use Rattle.reg_session.proofs.HoldLaws.{Alone, chain_split, chain_later, calm_front, calm_back, HasAnswer, one_answer, held_answer}
-use Rattle.reg_session.proofs.ReadingLaws.{Reading, headed, one_request, one_reading}
-use Rattle.reg_session.proofs.EndingLaws.{IsLastOf, talk_of, EndsAt, one_end, ends_at}
+use Rattle.reg_session.proofs.MemoryLaws.{all_memory, neither}
+use Rattle.reg_session.proofs.OneHold.{Same, HasMemory}
+use Rattle.reg_session.proofs.OneUpload.{turned}
+use Rattle.reg_session.proofs.OneAnswer.{Answered, one_answer}
+use Rattle.reg_session.proofs.HoldLaws.{Alone, all_split, chain_later, calm_front, calm_back, Goes, goes_split, AreTold, told_behind, tells_behind}
+use Rattle.reg_session.proofs.ReadingLaws.{Reading, headed, IsReading, IsHeaded, one_reading, served_headed}
+use Rattle.reg_session.proofs.EndingLaws.{talk_of, talk_is, IsLastOf, EndsAt, one_end, ends_at}
 
 -- ---- one request that was served
 
-neither : (a b : Bool) → (a || b) ≡ false → (a ≡ false) × (b ≡ false)
-neither true b is = absurd (false≢true (sym is))
-neither false b is = (refl, is)
-
-pub record ServedAt (w v : Data) (x y : List ℕ) (t : Turn) : Type 0 where
+pub record ServedAt (who now : ℕ) (w : Data) (words : Words) (x : List ℕ) (t : Turn) (v : Data) (after : Words) (y : List ℕ) : Type 0 where
   pub is : IsServed t
   pub request : ReadsRequest x t.request y
-  pub holds : Chain Alone w t.holds v
-  pub calm : Rose w.faults v.faults → ⊥
+  pub goes : Goes (own who (Some now)) w words t.holds v after
 
--- its answer, and the world stays as it is held
-answer_at : (w v : Data) (x y : List ℕ) (t : Turn) → IsTrue w.held.tells → ServedAt w v x y t → HasAnswer (facts w) (asked_in t.request.parts) t.answer × (v.held ≡ w.held)
-answer_at w v x y t tells h =
-    held_answer w v (asked_in t.request.parts) t.holds t.answer tells h.is.0.replies_so h.holds h.calm (neither (is_last t.request.parts) (wants_memory t.answer.reply) h.is.1).1
+served_reading : (who now : ℕ) (w v : Data) (words after : Words) (x y : List ℕ) (t : Turn) → ServedAt who now w words x t v after y
+    → IsHeaded (own who (Some now)) w words x t.request.parts t.request.body (within (ends_before y))
+served_reading who now w v words after x y t h =
+    served_headed (own who (Some now)) w v words after x y t.request t.answer t.holds h.is.0.replies_so h.is.0.told h.goes h.request
 
--- the same request of the same world is answered alike, and leaves the same bytes
-one_served : (w v u z : Data) (x y r : List ℕ) (t s : Turn) → IsTrue w.held.tells → w.held ≡ u.held → ServedAt w v x y t → ServedAt u z x r s
-    → (talk t ≡ talk s) × (y ≡ r) × (v.held ≡ z.held) × (v.held ≡ w.held)
-one_served w v u z x y r t s tells held h k =
-    let same = one_request x t.request s.request y r h.request k.request in
-    let first = answer_at w v x y t tells h in
-    let second = answer_at u z x r s (subst (λ (d : Holding). IsTrue d.tells) held tells) k in
-    let there : HasAnswer (facts w) (asked_in t.request.parts) s.answer =
-    subst (λ (d : Holding). HasAnswer (facts_of d) (asked_in t.request.parts) s.answer) (sym held) (subst (λ (p : Parts). HasAnswer (facts u) (asked_in p) s.answer) (sym same.0) second.0) in
-    let answer = one_answer (facts w) (asked_in t.request.parts) t.answer s.answer first.0 there in
-    ((λ i. talk_of (same.0 i) (answer i)), same.1, first.1 ∙ held ∙ sym second.1, first.1)
+answered : (who now : ℕ) (w v : Data) (words after : Words) (x y : List ℕ) (t : Turn) → ServedAt who now w words x t v after y
+    → Answered who now w words (asked_in t.request.parts) t.request.body t.holds t.answer v after
+answered who now w v words after x y t h =
+    record { replies_so = h.is.0.replies_so; goes = h.goes; enough = (neither (is_last t.request.parts) (wants_memory t.answer.reply) h.is.1).1 }
+
+-- the parts of what was read
+abbrev parts_at : Parts → Reading → Parts
+parts_at p (headed q d f) = q
+parts_at p r = p
+
+abbrev body_at : Reading → List ℕ
+body_at (headed p d f) = d
+body_at r = []
+
+abbrev rest_at : Reading → List ℕ
+rest_at (headed p d f) = rest_behind f
+rest_at r = []
+
+-- the same request in the same world is answered alike, and leaves the same
+record ServedOne (t s : Turn) (v z : Data) (after later : Words) (y r : List ℕ) : Type 0 where
+  text_so : talk t ≡ talk s
+  rest_so : y ≡ r
+  left : Same v z
+  words_so : after ≡ later
+
+one_served : (who now : ℕ) (w u v z : Data) (words also after later : Words) (x y r : List ℕ) (t s : Turn) → AreTold words → words ≡ also → Same w u → IsTrue w.held.tells
+    → ServedAt who now w words x t v after y → ServedAt who now u also x s z later r → ServedOne t s v z after later y r
+one_served who now w u v z words also after later x y r t s told is same tells h k =
+    let first = served_reading who now w v words after x y t h in
+    let second = subst (λ (b : Words). IsHeaded (own who (Some now)) u b x s.request.parts s.request.body (within (ends_before r))) (sym is) (served_reading who now u z also later x r s k) in
+    let reading = one_reading (own who (Some now)) w u words x same tells (headed t.request.parts t.request.body (within (ends_before y))) (headed s.request.parts s.request.body (within (ends_before r))) first second in
+    let parts : t.request.parts ≡ s.request.parts = ap (parts_at t.request.parts) reading in
+    let body : t.request.body ≡ s.request.body = ap body_at reading in
+    let there = subst (λ (d : List ℕ). Answered who now u also (asked_in t.request.parts) d s.holds s.answer z later) (sym body)
+    (subst (λ (p : Parts). Answered who now u also (asked_in p) s.request.body s.holds s.answer z later) (sym parts) (answered who now u z also later x r s k)) in
+    let one = one_answer who now w u v z words also after later (asked_in t.request.parts) t.request.body t.holds s.holds t.answer s.answer told is same tells (answered who now w v words after x y t h) there in
+    record {
+      text_so = talk_is t h.is.0.told ∙ (λ i. talk_of (parts i) (one.answer_so i)) ∙ sym (talk_is s k.is.0.told);
+      rest_so = ap rest_at reading;
+      left = one.left;
+      words_so = one.words_so;
+    }
 
 -- a session does not end where another one serves a request
-not_last : {B : Type 0} (w v u : Data) (x y text : List ℕ) (t : Turn) (ended : Ended B) → ServedAt w v x y t → EndsAt (facts u) x text ended → ⊥
-not_last w v u x y text t ended h k =
-    let reading : Reading = headed t.request.parts t.request.body (within (ends_before y)) in
-    let request = h.request in
-    let same = one_reading x reading k.reading (request.0, request.1, request.2, h.is.0.told) k.is in
-    let last : is_last t.request.parts ≡ true = subst IsLastOf (sym same) k.last in
+not_last : {B : Type 0} (who now : ℕ) (w v u : Data) (words after also : Words) (x y text : List ℕ) (t : Turn) (ended : Ended B) → words ≡ also → Same w u → IsTrue w.held.tells
+    → ServedAt who now w words x t v after y → EndsAt who now u also x text ended → ⊥
+not_last who now w v u words after also x y text t ended is same tells h k =
+    let there = subst (λ (b : Words). IsReading (own who (Some now)) u b x k.reading) (sym is) k.is in
+    let reading = one_reading (own who (Some now)) w u words x same tells (headed t.request.parts t.request.body (within (ends_before y))) k.reading (served_reading who now w v words after x y t h) there in
+    let last : is_last t.request.parts ≡ true = subst IsLastOf (sym reading) k.last in
     false≢true (sym (neither (is_last t.request.parts) (wants_memory t.answer.reply) h.is.1).0 ∙ last)
 
 -- ---- a session from some place on
 
-pub record Runs {B : Type 0} (w v : Data) (x : List ℕ) (turns : List Turn) (work : Work) (ended : Ended B) : Type 0 where
+pub record Runs {B : Type 0} (who now : ℕ) (w : Data) (words : Words) (x : List ℕ) (turns : List Turn) (work : Work) (ended : Ended B) : Type 0 where
   pub mid : Data
+  pub between : Words
   pub place : List ℕ
+  pub left : Data
+  pub after : Words
   pub rest : List ℕ
   pub each : AllByRecursion IsServed turns
-  pub holds : Chain Alone w (flat_map (λ (t : Turn). t.holds) turns) mid
+  pub goes : Goes (own who (Some now)) w words (flat_map (λ (t : Turn). t.holds) turns) mid between
   pub read : Reads (map (λ (t : Turn). t.request) turns) x place
   pub done : IsWork work
   pub ends : EndsWith ended work
-  pub last : Chain Alone mid (holds_of work) v
+  pub last : Goes (own who (Some now)) mid between (holds_of work) left after
   pub took : Took work place rest
   pub on : EndsOn ended work place
   pub by_input : EndsByInput ended
-  pub calm : Rose w.faults v.faults → ⊥
 
 abbrev run_text : List Turn → Work → List ℕ
 run_text turns work = flat_map talk turns ++ text_of work
 
-run_ends : {B : Type 0} (w v : Data) (x : List ℕ) (work : Work) (ended : Ended B) → IsTrue w.held.tells → Runs w v x [] work ended → EndsAt (facts w) x (text_of work) ended
-run_ends w v x work ended tells h =
-    ends_at w v x h.rest tells h.calm work ended h.by_input h.done h.ends
-    (subst (λ (d : Data). Chain Alone d (holds_of work) v) (h.holds h.mid refl) h.last)
-    (subst (λ (b : List ℕ). Took work b h.rest) h.read h.took)
+run_ends : {B : Type 0} (who now : ℕ) (w : Data) (words : Words) (x : List ℕ) (work : Work) (ended : Ended B) → Runs who now w words x [] work ended
+    → EndsAt who now w words x (text_of work) ended
+run_ends who now w words x work ended h =
+    let world : h.mid ≡ w = h.goes.chain h.mid refl in
+    let last = subst (λ (b : Words). Goes (own who (Some now)) w b (holds_of work) h.left h.after) h.goes.brings
+    (subst (λ (d : Data). Goes (own who (Some now)) d h.between (holds_of work) h.left h.after) world h.last) in
+    ends_at who now w h.left words h.after x h.rest work ended h.by_input h.done h.ends last (subst (λ (b : List ℕ). Took work b h.rest) h.read h.took)
     (subst (λ (b : List ℕ). EndsOn ended work b) h.read h.on)
 
 -- its first request, and the rest of it
-record RunsBy {B : Type 0} (w v : Data) (x : List ℕ) (t : Turn) (turns : List Turn) (work : Work) (ended : Ended B) : Type 0 where
+record RunsBy {B : Type 0} (who now : ℕ) (w : Data) (words : Words) (x : List ℕ) (t : Turn) (turns : List Turn) (work : Work) (ended : Ended B) : Type 0 where
   world : Data
-  place : List ℕ
-  first : ServedAt w world x place t
-  more : Runs world v place turns work ended
+  drawn : Words
+  behind : List ℕ
+  first : ServedAt who now w words x t world drawn behind
+  more : Runs who now world drawn behind turns work ended
 
-run_first : {B : Type 0} (w v : Data) (x : List ℕ) (t : Turn) (turns : List Turn) (work : Work) (ended : Ended B) → Runs w v x (t ∷ turns) work ended → RunsBy w v x t turns work ended
-run_first w v x t turns work ended h =
-    let split = chain_split w h.mid t.holds (flat_map (λ (s : Turn). s.holds) turns) h.holds in
-    let here_on = chain_later w split.0 t.holds split.1 in
-    let to_last = chain_later split.0 h.mid (flat_map (λ (s : Turn). s.holds) turns) split.2 in
-    let to_end = chain_later h.mid v (holds_of work) h.last in
+run_first : {B : Type 0} (who now : ℕ) (w : Data) (words : Words) (x : List ℕ) (t : Turn) (turns : List Turn) (work : Work) (ended : Ended B) → Runs who now w words x (t ∷ turns) work ended
+    → RunsBy who now w words x t turns work ended
+run_first who now w words x t turns work ended h =
+    let split = goes_split (own who (Some now)) w h.mid words h.between t.holds (flat_map (λ (s : Turn). s.holds) turns) h.goes in
     record {
-      world = split.0;
-      place = h.read.0;
-      first = record {
-        is = h.each.0;
-        request = h.read.1;
-        holds = split.1;
-        calm = calm_front w.faults split.0.faults v.faults (omega (arith, to_last, to_end)) h.calm;
-      };
+      world = split.mid;
+      drawn = split.between;
+      behind = h.read.0;
+      first = record { is = h.each.0; request = h.read.1; goes = split.one };
       more = record {
         mid = h.mid;
+        between = h.between;
         place = h.place;
+        left = h.left;
+        after = h.after;
         rest = h.rest;
         each = h.each.1;
-        holds = split.2;
+        goes = split.two;
         read = h.read.2;
         done = h.done;
         ends = h.ends;
@@ -123,27 +156,36 @@ run_first w v x t turns work ended h =
         took = h.took;
         on = h.on;
         by_input = h.by_input;
-        calm = calm_back w.faults split.0.faults v.faults here_on h.calm;
       };
     }
 
-one_run : {B : Type 0} (turns others : List Turn) (k m : Work) (e f : Ended B) (w v u z : Data) (x : List ℕ) → IsTrue w.held.tells → w.held ≡ u.held
-    → Runs w v x turns k e → Runs u z x others m f → (run_text turns k ≡ run_text others m) × (e ≡ f)
-one_run [] [] k m e f w v u z x tells held h j =
-    one_end (facts w) (facts u) x (text_of k) (text_of m) e f (ap facts_of held) (run_ends w v x k e tells h) (run_ends u z x m f (subst (λ (d : Holding). IsTrue d.tells) held tells) j)
-one_run (t ∷ turns) [] k m e f w v u z x tells held h j =
-    let one = run_first w v x t turns k e h in
-    absurd (not_last w one.world u x one.place (text_of m) t f one.first (run_ends u z x m f (subst (λ (d : Holding). IsTrue d.tells) held tells) j))
-one_run [] (s ∷ others) k m e f w v u z x tells held h j =
-    let two = run_first u z x s others m f j in
-    absurd (not_last u two.world w x two.place (text_of k) s e two.first (run_ends w v x k e tells h))
-one_run (t ∷ turns) (s ∷ others) k m e f w v u z x tells held h j =
-    let one = run_first w v x t turns k e h in
-    let two = run_first u z x s others m f j in
-    let same = one_served w one.world u two.world x one.place two.place t s tells held one.first two.first in
-    let rest = one_run turns others k m e f one.world v two.world z one.place (subst (λ (d : Holding). IsTrue d.tells) (sym same.3) tells) same.2
-    one.more (subst (λ (b : List ℕ). Runs two.world z b others m f) (sym same.1) two.more) in
-    (append_assoc (talk t) (flat_map talk turns) (text_of k) ∙ (λ i. same.0 i ++ rest.0 i) ∙ sym (append_assoc (talk s) (flat_map talk others) (text_of m)), rest.1)
+-- what is told before a request is told behind it
+served_tells : (who now : ℕ) (w v : Data) (words after : Words) (x y : List ℕ) (t : Turn) → IsTrue w.held.tells → ServedAt who now w words x t v after y → IsTrue v.held.tells
+served_tells who now w v words after x y t tells h = tells_behind w v t.holds tells h.goes.chain
+
+served_told : (who now : ℕ) (w v : Data) (words after : Words) (x y : List ℕ) (t : Turn) → AreTold words → ServedAt who now w words x t v after y → AreTold after
+served_told who now w v words after x y t told h = told_behind (own who (Some now)) words after t.holds told h.goes.brings
+
+also_tells : (w u : Data) → Same w u → IsTrue w.held.tells → IsTrue u.held.tells
+also_tells w u same tells = sym (ap (λ (d : Holding). d.tells) same.held) ∙ tells
+
+one_run : {B : Type 0} (who now : ℕ) (turns others : List Turn) (k m : Work) (e f : Ended B) (w u : Data) (words also : Words) (x : List ℕ) → AreTold words → words ≡ also → Same w u → IsTrue w.held.tells
+    → Runs who now w words x turns k e → Runs who now u also x others m f → (run_text turns k ≡ run_text others m) × (e ≡ f)
+one_run who now [] [] k m e f w u words also x told is same tells h j =
+    one_end who now w u words also x (text_of k) (text_of m) e f told is same tells (run_ends who now w words x k e h) (run_ends who now u also x m f j)
+one_run who now (t ∷ turns) [] k m e f w u words also x told is same tells h j =
+    let one = run_first who now w words x t turns k e h in
+    absurd (not_last who now w one.world u words one.drawn also x one.behind (text_of m) t f is same tells one.first (run_ends who now u also x m f j))
+one_run who now [] (s ∷ others) k m e f w u words also x told is same tells h j =
+    let two = run_first who now u also x s others m f j in
+    absurd (not_last who now u two.world w also two.drawn words x two.behind (text_of k) s e (sym is) (turned w u same) (also_tells w u same tells) two.first (run_ends who now w words x k e h))
+one_run who now (t ∷ turns) (s ∷ others) k m e f w u words also x told is same tells h j =
+    let one = run_first who now w words x t turns k e h in
+    let two = run_first who now u also x s others m f j in
+    let first = one_served who now w u one.world two.world words also one.drawn two.drawn x one.behind two.behind t s told is same tells one.first two.first in
+    let rest = one_run who now turns others k m e f one.world two.world one.drawn two.drawn one.behind (served_told who now w one.world words one.drawn x one.behind t told one.first) first.words_so first.left
+    (served_tells who now w one.world words one.drawn x one.behind t tells one.first) one.more (subst (λ (b : List ℕ). Runs who now two.world two.drawn b others m f) (sym first.rest_so) two.more) in
+    (append_assoc (talk t) (flat_map talk turns) (text_of k) ∙ (λ i. first.text_so i ++ rest.0 i) ∙ sym (append_assoc (talk s) (flat_map talk others) (text_of m)), rest.1)
 
 -- ---- whole sessions
 
@@ -165,46 +207,61 @@ appended : (start text : List ℕ) (new : Option (List ℕ)) → Appends (Some s
 appended start text None h = absurd h
 appended start text (Some x) h = ap (λ (b : List ℕ). Some b) h
 
-record RunsFrom {B : Type 0} (w v : Data) (x start : List ℕ) (written : Option (List ℕ)) (ended : Ended B) : Type 0 where
+-- the holds of the requests that were served, and of the one in work
+whole_goes : (who now : ℕ) (w u v : Data) (words mid after : Words) (first second : List Hold) → Chain Alone w first u → Chain Alone u second v → BringsAll (own who (Some now)) words first mid
+    → BringsAll (own who (Some now)) mid second after → (Rose w.faults v.faults → ⊥) → AllByRecursion (λ (h : Hold). HasMemory h.seen) (first ++ second)
+    → Goes (own who (Some now)) w words first u mid × Goes (own who (Some now)) u mid second v after
+whole_goes who now w u v words mid after first second chain last brings brought calm memory =
+    let both = all_split (λ (h : Hold). HasMemory h.seen) first second memory in (
+      record { chain = chain; brings = brings; calm = calm_front w.faults u.faults v.faults (chain_later u v second last) calm; memory = both.0 },
+      record { chain = last; brings = brought; calm = calm_back w.faults u.faults v.faults (chain_later w u first chain) calm; memory = both.1 },
+    )
+
+record RunsFrom {B : Type 0} (who now : ℕ) (w : Data) (words : Words) (x start : List ℕ) (written : Option (List ℕ)) (ended : Ended B) : Type 0 where
   turns : List Turn
   work : Work
-  runs : Runs w v x turns work ended
+  runs : Runs who now w words x turns work ended
   wrote : written ≡ Some (start ++ run_text turns work)
 
-session_runs : {B : Type 0} (w : Data) (input start : List ℕ) (left : Option (List ℕ)) (new : At) (ended : Ended B)
-    → FollowsInput (here w (Some input) left (Some start)) new ended → RunsFrom w new.world input start new.written ended
-session_runs w input start left new ended h =
+session_runs : {B : Type 0} (who now : ℕ) (w : Data) (words : Words) (input start : List ℕ) (left : Option (List ℕ)) (new : At) (ended : Ended B)
+    → FollowsInput (own who (Some now)) (here w words (Some input) left (Some start)) new ended → RunsFrom who now w words input start new.written ended
+session_runs who now w words input start left new ended h =
     let s = h.session in
     let read = known input s.mid.bytes (Reads (map (λ (t : Turn). t.request) s.turns)) s.serves.read in
     let moved = subst (λ (b : Option (List ℕ)). OnStream b s.rest (λ bytes rest. Took s.work bytes rest × EndsOn ended s.work bytes)) read.1 s.ends.read in
     let last = known read.0 s.rest (λ bytes rest. Took s.work bytes rest × EndsOn ended s.work bytes) moved in
     let wrote = wrote_all (Rose h.sink_before h.sink_now) ended s.mid.written new.written s.work h.by_input s.ends.wrote in
+    let all = whole_goes who now w s.mid.world new.world words s.mid.words new.words (flat_map (λ (t : Turn). t.holds) s.turns) (holds_of s.work) s.serves.holds s.ends.holds s.serves.brings s.ends.brings h.sound
+    (all_memory ended s.turns s.work s.serves.each h.by_input s.ends.done s.ends.ends h.memory) in
     record {
       turns = s.turns;
       work = s.work;
       runs = record {
         mid = s.mid.world;
+        between = s.mid.words;
         place = read.0;
+        left = new.world;
+        after = new.words;
         rest = last.0;
         each = s.serves.each;
-        holds = s.serves.holds;
+        goes = all.0;
         read = read.2;
         done = s.ends.done;
         ends = s.ends.ends;
-        last = s.ends.holds;
+        last = all.1;
         took = last.2.0;
         on = last.2.1;
         by_input = h.by_input;
-        calm = h.sound;
       };
       wrote = appended start (run_text s.turns s.work) new.written (Appends-trans (Some start) s.mid.written new.written (flat_map talk s.turns) (text_of s.work) s.serves.wrote wrote);
     }
 
-pub one_text : {B : Type 0} (world : Data) (input start : List ℕ) (left : Option (List ℕ)) (one two : At) (ended other : Ended B)
-    → FollowsInput (here world (Some input) left (Some start)) one ended → FollowsInput (here world (Some input) left (Some start)) two other
-    → (one.written ≡ two.written) × (ended ≡ other)
-one_text world input start left one two ended other h k =
-    let first = session_runs world input start left one ended h in
-    let second = session_runs world input start left two other k in
-    let same = one_run first.turns second.turns first.work second.work ended other world one.world world two.world input h.tells refl first.runs second.runs in
+pub one_text : {B : Type 0} (who now : ℕ) (world : Data) (words : ℕ → List ℕ) (input start : List ℕ) (left : Option (List ℕ)) (one two : At) (ended other : Ended B)
+    → FollowsInput (own who (Some now)) (here world (Some words) (Some input) left (Some start)) one ended
+    → FollowsInput (own who (Some now)) (here world (Some words) (Some input) left (Some start)) two other → (one.written ≡ two.written) × (ended ≡ other)
+one_text who now world words input start left one two ended other h k =
+    let first = session_runs who now world (Some words) input start left one ended h in
+    let second = session_runs who now world (Some words) input start left two other k in
+    let same = one_run who now first.turns second.turns first.work second.work ended other world world (Some words) (Some words) input (words, refl) refl (record { held = refl; claims = refl }) h.tells
+    first.runs second.runs in
     (first.wrote ∙ ap (λ (t : List ℕ). Some (start ++ t)) same.0 ∙ sym second.wrote, same.1)

@@ -1,4 +1,7 @@
 pub mod Requests
+pub mod Chains
+pub mod Answering
+pub mod Uploads
 pub mod Turns
 pub mod Works
 pub mod Sessions
@@ -7,6 +10,8 @@ pub mod Holds
 pub mod Bodies
 pub mod Sending
 pub mod InnerBodies
+pub mod InnerGathering
 pub mod InnerSending
 pub mod InnerReplies
 pub mod InnerSteps
+pub mod InnerUploads

@@ -1,60 +1,70 @@
 -- Whole sessions.
-use Rattle.std.specs.Prelude.{◌≡◌, ℕ, ◌+◌, ◌<◌, ◌≤◌, ◌^◌, false, IsTrue, List, map, flat_map, Option, ⊤}
+use Rattle.std.specs.Prelude.{◌≡◌, ◌≢◌, ℕ, ◌+◌, ◌<◌, ◌≤◌, ◌^◌, false, IsTrue, List, map, flat_map, Option, ⊤}
 use Rattle.std.specs.List.{AllByRecursion}
 use Rattle.std.specs.Io.KnownBytes.{Appends}
 use Rattle.reg_names.specs.Cause.{Rose, HasCause}
+use Rattle.depot_api.specs.Ids.{Words}
 use Rattle.http_wire.specs.Flow.{OnStream}
+use Rattle.reg_entries.specs.declared.trouble.Trouble.TheVariants as troubles
 use Rattle.reg_world.specs.Worlds.{Data}
+use Rattle.reg_world.specs.Moves.{failed}
 use Rattle.reg_session.specs.declared.ended.Ended.{Ended}
 use Rattle.reg_session.specs.declared.ended.Ended.TheVariants as ends
+use Rattle.reg_session.specs.Chains.{Chain, Own, BringsAll}
 use Rattle.reg_session.specs.Requests.{Reads}
-use Rattle.reg_session.specs.Turns.{Chain, Turn, IsTurn, closes, talk}
+use Rattle.reg_session.specs.Turns.{Turn, IsTurn, closes, talk}
 use Rattle.reg_session.specs.Works.{Work, holds_of, IsWork, Took, EndsWith, EndsOn, LeavesNothing, Wrote}
 
--- the world, the bytes to come, what the source has left of them, and the bytes written, at one moment of a session
+-- the world, the words to come of which ids are made, the bytes to come, what the source has left of them, and the
+-- bytes written, at one moment of a session
 pub record At : Type 0 where
   pub world : Data
+  pub words : Words
   pub bytes : Option (List ℕ)
   pub left : Option (List ℕ)
   pub written : Option (List ℕ)
 
-abbrev pub here : Data → Option (List ℕ) → Option (List ℕ) → Option (List ℕ) → At
-here world bytes left written = record { world = world; bytes = bytes; left = left; written = written }
+abbrev pub here : Data → Words → Option (List ℕ) → Option (List ℕ) → Option (List ℕ) → At
+here world words bytes left written =
+    record { world = world; words = words; bytes = bytes; left = left; written = written }
 
 -- a request that was served, behind which the session goes on
 abbrev pub IsServed : Turn → Type 0
 IsServed t = IsTurn t × (closes t ≡ false)
 
 -- these requests were served, one after the other
-pub record Serves (between : Data → Data → Type 0) (old new : At) (turns : List Turn) : Type 0 where
+pub record Serves (between : Data → Data → Type 0) (o : Own) (old new : At) (turns : List Turn) : Type 0 where
   -- each by its own holds
   pub each : AllByRecursion IsServed turns
   -- which lead from one world to the other
   pub holds : Chain between old.world (flat_map (λ t. t.holds) turns) new.world
+  -- and to which the session brought its number, the moments and the ids
+  pub brings : BringsAll o old.words (flat_map (λ t. t.holds) turns) new.words
   -- their spellings were read
   pub read : OnStream old.bytes new.bytes (Reads (map (λ t. t.request) turns))
   -- and their replies were written
   pub wrote : Appends old.written new.written (flat_map talk turns)
 
 -- the session ended with this work; that the sink failed excuses a reply for want of memory that was not written whole
-pub record EndsBy {B : Type 0} (between : Data → Data → Type 0) (failed : Type 0) (old new : At) (ended : Ended B)
-    (work : Work) : Type 0 where
+pub record EndsBy {B : Type 0} (between : Data → Data → Type 0) (o : Own) (failed : Type 0) (old new : At)
+    (ended : Ended B) (work : Work) : Type 0 where
   pub done : IsWork work
   pub ends : EndsWith ended work
   pub holds : Chain between old.world (holds_of work) new.world
+  pub brings : BringsAll o old.words (holds_of work) new.words
   pub read : OnStream old.bytes new.bytes (λ bytes rest. Took work bytes rest × EndsOn ended work bytes)
   pub at_end : LeavesNothing ended work new.left
   pub wrote : Wrote failed ended old.written new.written work
 
 -- a whole session, from a world and what its source has left: requests that were served, and the one in work at its end
-pub record Session {B : Type 0} (between : Data → Data → Type 0) (failed : Type 0) (old new : At) (ended : Ended B)
-    : Type 0 where
+pub record Session {B : Type 0} (between : Data → Data → Type 0) (o : Own) (failed : Type 0) (old new : At)
+    (ended : Ended B) : Type 0 where
   pub turns : List Turn
   pub work : Work
   pub mid : At
   pub rest : Option (List ℕ)
-  pub serves : Serves between old mid turns
-  pub ends : EndsBy between failed mid (record new { bytes = rest }) ended work
+  pub serves : Serves between o old mid turns
+  pub ends : EndsBy between o failed mid (record new { bytes = rest }) ended work
 
 -- ---- causes
 
@@ -84,11 +94,13 @@ EndsByInput (ends.Refused n) = ⊤
 EndsByInput ends.Cut = ⊤
 EndsByInput ended = ⊥
 
--- so it did, while nobody else changed the world, whose depot tells what it holds and did not fail
-pub record FollowsInput {B : Type 0} (old new : At) (ended : Ended B) : Type 0 where
+-- so it did, while nobody else changed the world, whose depot tells what it holds and did not fail, and
+-- memory was not wanting in a hold for the request in work
+pub record FollowsInput {B : Type 0} (o : Own) (old new : At) (ended : Ended B) : Type 0 where
   pub sink_before : ℕ
   pub sink_now : ℕ
-  pub session : Session (λ before now. now ≡ before) (Rose sink_before sink_now) old new ended
+  pub session : Session (λ before now. now ≡ before) o (Rose sink_before sink_now) old new ended
   pub by_input : EndsByInput ended
   pub tells : IsTrue old.world.held.tells
   pub sound : ¬ (Rose old.world.faults new.world.faults)
+  pub memory : AllByRecursion (λ h. h.seen ≢ failed troubles.NoMemory) (holds_of session.work)

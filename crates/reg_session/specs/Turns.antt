@@ -1,90 +1,81 @@
 -- One request and its reply, by the holds that were made for it.
-use Rattle.std.specs.Prelude.{◌≡◌, ◌==◌, ℕ, Bool, true, false, ◌&&◌, ◌||◌, List, [], ◌∷◌, ◌++◌, if◌then◌else◌, codes, Ok, Err}
+use Rattle.std.specs.Prelude.{◌≡◌, ◌==◌, ℕ, Bool, true, false, ◌&&◌, ◌||◌, List, [], ◌∷◌, ◌++◌, if◌then◌else◌, codes, Ok, Err, ⊤}
 use Rattle.reg_entries.specs.Numbers as numbers
 use Rattle.reg_entries.specs.declared.ask.Ask.{Ask}
 use Rattle.reg_entries.specs.declared.ask.Ask.TheVariants as asks
 use Rattle.reg_entries.specs.declared.reply.Reply.{Reply}
 use Rattle.reg_entries.specs.declared.reply.Reply.TheVariants as replies
-use Rattle.reg_entries.specs.declared.trouble.Trouble.{Trouble}
-use Rattle.reg_entries.specs.declared.trouble.Trouble.TheVariants as troubles
-use Rattle.reg_model.specs.Facts.{Facts}
-use Rattle.reg_model.specs.Answers.{Answer, IsAnswer, plain, refusal}
+use Rattle.reg_model.specs.Answers.{Answer, plain}
 use Rattle.reg_replies.specs.Replies.{wire}
 use Rattle.reg_routes.specs.Routing.{Answer as Asked}
-use Rattle.reg_world.specs.Worlds.{Data}
-use Rattle.reg_world.specs.Moves.{Act, answers, Seen, replied, failed, Moves}
+use Rattle.upload_sessions.specs.declared.taking.Taken.TheVariants as taken
+use Rattle.reg_world.specs.Moves.{Seen, gave}
+use Rattle.reg_session.specs.Answering.{AnswersAs, AnswersAlways, IsActOf}
+use Rattle.reg_session.specs.Chains.{Hold}
 use Rattle.reg_session.specs.Requests.{Parts, Request, asked_in, head_only, is_last, awaits}
-
--- ---- holds
-
--- one hold: what was done, what was seen, and the world before and after
-pub record Hold : Type 0 where
-  pub act : Act
-  pub seen : Seen
-  pub found : Data
-  pub left : Data
-
--- by these holds, with what others may do between them, from what was known of the world to what is known of it: what
--- may be found next is what may follow the last hold
-abbrev pub Chain : (Data → Data → Type 0) → Data → List Hold → Data → Type 0
-Chain between old [] new = (next : Data) → between new next → between old next
-Chain between old (h ∷ holds) new =
-    between old h.found × Moves h.found h.act h.seen h.left × Chain between h.left holds new
+use Rattle.reg_session.specs.Uploads.{Patches, Finishes}
 
 -- ---- replies
 
--- the reply for a trouble: a device failed, the journal is full, or memory was wanting
-abbrev pub trouble_reply : Trouble → Reply
-trouble_reply troubles.Depot = refusal numbers.storage_fault
-trouble_reply troubles.Keeper = refusal numbers.storage_fault
-trouble_reply troubles.Full = refusal numbers.journal_full
-trouble_reply troubles.NoMemory = refusal numbers.no_memory
+-- the holds that a request with this body makes, and its answer: none where it is refused for its head, else one, but
+-- for an upload
+abbrev pub RepliesTo : Ask → List ℕ → List Hold → Answer → Type 0
+RepliesTo (asks.Patch name id start) body holds answer = Patches name id start body holds answer
+RepliesTo (asks.Finish name id digest start) body holds answer = Finishes name id digest start body holds answer
+RepliesTo ask body [] answer = AnswersAlways ask answer
+RepliesTo ask body (h ∷ []) answer = IsActOf ask body h.act × AnswersAs h.seen answer
+RepliesTo ask body holds answer = ⊥
 
--- the answer by what a hold has seen
-abbrev pub AnswersAs : Seen → Answer → Type 0
-AnswersAs (replied answer) given = given ≡ answer
-AnswersAs (failed trouble) given = given ≡ plain (trouble_reply trouble)
-
--- the asks that are answered by a hold of the world
-abbrev pub is_held : Ask → Bool
-is_held (asks.GetBlob name digest) = true
-is_held (asks.GetManifest name at) = true
-is_held (asks.Tags name n last) = true
-is_held ask = false
-
--- an answer that takes no hold: it is the one-thread registry's in every world
-abbrev pub AnswersAlways : Ask → Answer → Type 0
-AnswersAlways ask answer = (is_held ask ≡ false) × ((facts : Facts) → IsAnswer facts ask answer)
-
--- the holds that a request makes, and its answer: none where it is refused for its head, else one at most
-abbrev pub Replies : Asked → List Hold → Answer → Type 0
-Replies (Err reply) [] answer = answer ≡ plain reply
-Replies (Ok ask) [] answer = AnswersAlways ask answer
-Replies (Ok ask) (h ∷ []) answer = (is_held ask ≡ true) × (h.act ≡ answers ask) × AnswersAs h.seen answer
-Replies asked holds answer = ⊥
+abbrev pub Replies : Asked → List ℕ → List Hold → Answer → Type 0
+Replies (Err reply) body [] answer = answer ≡ plain reply
+Replies (Err reply) body holds answer = ⊥
+Replies (Ok ask) body holds answer = RepliesTo ask body holds answer
 
 -- ---- texts
 
--- a request that waits for it is told to go on, unless its refusal is known before its body
-abbrev pub goes_on_for : Ask → Bool
-goes_on_for (asks.Patch name id start) = false
-goes_on_for (asks.Finish name id digest start) = false
-goes_on_for ask = true
+-- a session was given by the first hold
+abbrev pub gives_session : Seen → Bool
+gives_session (gave (taken.Out held staged offset)) = true
+gives_session seen = false
 
-abbrev pub goes_on : Asked → Bool
-goes_on (Ok ask) = goes_on_for ask
-goes_on (Err reply) = false
+abbrev pub is_given : List Hold → Bool
+is_given [] = false
+is_given (h ∷ holds) = gives_session h.seen
 
--- its body may come: where the client waits to be told to go on, it is told, since else it is refused at once
-abbrev pub MaySendBody : Parts → Type 0
-MaySendBody p = awaits p ≡ true → goes_on (asked_in p) ≡ true
+-- a request that waits for it is told to go on, unless its refusal is known before its body: that of an upload, once
+-- its session is given
+abbrev pub goes_on_for : Ask → List Hold → Bool
+goes_on_for (asks.Patch name id start) holds = is_given holds
+goes_on_for (asks.Finish name id digest start) holds = is_given holds
+goes_on_for ask holds = true
+
+abbrev pub goes_on : Asked → List Hold → Bool
+goes_on (Ok ask) holds = goes_on_for ask holds
+goes_on (Err reply) holds = false
+
+-- what is asked for is not to add to an upload
+abbrev pub NeedsNoSession : Asked → Type 0
+NeedsNoSession (Ok (asks.Patch name id start)) = ⊥
+NeedsNoSession (Ok (asks.Finish name id digest start)) = ⊥
+NeedsNoSession asked = ⊤
+
+-- the first hold looks for the session of an upload
+abbrev pub LooksFirst : Asked → List Hold → Type 0
+LooksFirst asked [] = NeedsNoSession asked
+LooksFirst asked (h ∷ holds) = ⊤
+
+-- its body may come: the session of an upload was looked for, and where the client waits to be told to go on, it is
+-- told, since else it is refused at once
+pub record MaySendBody (p : Parts) (holds : List Hold) : Type 0 where
+  pub looks : LooksFirst (asked_in p) holds
+  pub told : awaits p ≡ true → goes_on (asked_in p) holds ≡ true
 
 -- the interim reply (RFC 9110, section 15.2.1)
 abbrev pub continue_line : List ℕ
 continue_line = codes "HTTP/1.1 100 Continue\r\n\r\n"
 
-abbrev pub interim : Parts → List ℕ
-interim p = if awaits p && goes_on (asked_in p) then continue_line else []
+abbrev pub interim : Parts → List Hold → List ℕ
+interim p holds = if awaits p && goes_on (asked_in p) holds then continue_line else []
 
 -- a request that was served
 pub record Turn : Type 0 where
@@ -94,8 +85,8 @@ pub record Turn : Type 0 where
 
 -- its answer is that of its holds, behind its body
 pub record IsTurn (t : Turn) : Type 0 where
-  pub replies_so : Replies (asked_in t.request.parts) t.holds t.answer
-  pub told : MaySendBody t.request.parts
+  pub replies_so : Replies (asked_in t.request.parts) t.request.body t.holds t.answer
+  pub told : MaySendBody t.request.parts t.holds
 
 abbrev pub wants_memory : Reply → Bool
 wants_memory (replies.Refused told) = told.number == numbers.no_memory
@@ -111,7 +102,7 @@ content p answer = if head_only p then [] else answer.content
 
 -- what stands before these: the interim reply, and the reply
 abbrev pub opening : Turn → List ℕ
-opening t = interim t.request.parts ++ wire t.answer.reply (head_only t.request.parts) (closes t)
+opening t = interim t.request.parts t.holds ++ wire t.answer.reply (head_only t.request.parts) (closes t)
 
 abbrev pub talk : Turn → List ℕ
 talk t = opening t ++ content t.request.parts t.answer

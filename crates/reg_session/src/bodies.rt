@@ -56,8 +56,8 @@ pub(crate) fn drop_body<S: Source>(
     }
 }
 
-// Up to so many bytes.
-fn drop_within<S: Source>(
+/// Reads on in a body and drops it, up to so many bytes.
+pub(crate) fn drop_within<S: Source>(
     feed: &mut Feed,
     source: &mut S,
     body: &mut BodyReader,

@@ -1,5 +1,5 @@
 //! Who holds a world.
-ghost use Rattle.std.specs.Prelude.{◌≡◌};
+ghost use Rattle.std.specs.Prelude.{◌≡◌, ℕ};
 ghost use Rattle.std.specs.Borrow.{sem, Lends};
 ghost use Rattle.reg_world.specs.contracts.world.World.{the_row as world_row};
 ghost use Rattle.reg_world.specs.declared.world.World.{World as WorldOf};
@@ -32,6 +32,13 @@ pub trait Holder<D: Depot, K, P> {
     /// It is the same holder, of the same world.
     ghost is_of: { Self → Self → Type 0 };
 
+    /// The number by which its claims are known.
+    ghost number: { Self → ℕ };
+
+    /// The number by which its claims are known: 0 where nobody else enters. Takes no memory.
+    fn who(&self) -> u32
+        ensures { result ≡ number self.now };
+
     /// Takes the world out. Takes no memory.
     fn enter(&mut self, pass: &P)
         requires { may_enter self.old }
@@ -53,6 +60,10 @@ pub trait Holder<D: Depot, K, P> {
         ensures outside { may_enter self.new }
         ensures same { (origin : Self) → is_of origin self.old → is_of origin self.new }
         ensures kept { (next : Data) → between (at self.new) next → between (at self.old) next };
+
+    ghost is_itself: { (s : Self) → is_of s s };
+
+    ghost has_number: { (origin s : Self) → is_of origin s → number s ≡ number origin };
 
     ghost keeps: { (s : Self) (w : WorldOf D K) → at (with_world s w) ≡ shown D.held D.faults w };
 
@@ -93,6 +104,12 @@ impl<'a, D: Depot, K> Holder<D, K, Nothing> for Lent<'a, D, K> {
     ghost is_of = { λ origin s. (s.world.ghost_name ≡ origin.world.ghost_name)
         × (keeper_of s.world.now ≡ keeper_of origin.world.now) };
 
+    ghost number = { λ _. 0 };
+
+    fn who(&self) -> u32 {
+        0
+    }
+
     fn enter(&mut self, _: &Nothing) {}
 
     fn world(&mut self) -> &mut World<D, K> {
@@ -100,6 +117,10 @@ impl<'a, D: Depot, K> Holder<D, K, Nothing> for Lent<'a, D, K> {
     }
 
     fn leave(&mut self) {}
+
+    ghost is_itself = { λ _. (refl, refl) };
+
+    ghost has_number = { λ _ _ _. refl };
 
     ghost keeps = { λ _ _. refl };
 

@@ -6,15 +6,21 @@
 #![tactic(auto)]
 
 mod bodies;
+mod completing;
 mod deciding;
 mod ended;
 mod exchange;
+mod gathering;
 mod holder;
 mod holds;
 mod laws;
+mod manifests;
+mod refusing;
 mod replies;
 mod sending;
 mod session;
+mod upload_holds;
+mod uploads;
 
 pub use ended::Ended;
 pub use holder::{Holder, Lent, Nothing};

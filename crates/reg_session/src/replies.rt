@@ -143,8 +143,8 @@ fn ask_left<B: Blob>(blob: &Option<B>)
     }
 }
 
-// Whether a reply says that memory was wanting.
-fn wants_memory(reply: &Reply) -> bool
+/// Whether a reply says that memory was wanting.
+pub(crate) fn wants_memory(reply: &Reply) -> bool
     ensures { result ≡ has_no_memory reply.now }
 {
     matches!(

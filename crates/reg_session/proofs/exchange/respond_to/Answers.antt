@@ -1,64 +1,24 @@
-use Rattle.std.proofs.Common.{◌≡◌, ℕ, List, [], Option, Some, ap, refl, sym, subst, ◌∙◌}
-use Rattle.std.specs.Io.KnownBytes.{Appends}
-use Rattle.reg_names.specs.Cause.{Rose}
-use Rattle.reg_session.specs.InnerSteps.{broken}
-use Rattle.reg_session.specs.Requests.{parts_in}
-use Rattle.reg_session.specs.Turns.{interim}
-use Rattle.reg_session.specs.Works.{Begun}
-use Rattle.reg_session.proofs.BlobLaws.{took_front, took_all}
-use Rattle.reg_session.proofs.ConcludeLaws.{rose_before, wrote_before, concludes_before}
-use Rattle.reg_session.proofs.ExchangeLaws.{later_than}
-use Rattle.reg_session.proofs.RespondLaws.{ask_goes, ask_limits, ask_replies, line_is_interim, unsaid_behind, whole_behind, cut_behind, broken_causes}
+use Rattle.std.proofs.Common.{Ok, ap, ◌∙◌}
+use Rattle.reg_session.proofs.DecidingLaws.{single_by}
 use Rattle.reg_session.proofs.exchange.respond_to.Goals as goal
 
-pub returns-then-is_err-clause-responds : goal.returns-then-is_err-clause-responds
-returns-then-is_err-clause-responds g c =
-    let p = parts_in c.args.head.now in
-    let failed = sym c.is_err.ensures.value ∙ c.if-is_err.true in
-    record {
-      holds = [];
-      chain = λ next h. h;
-      behind = unsaid_behind (Rose (g.O.Sink.faults c.args.sink.now) (g.O.Sink.faults c.send_continue.new.sink)) p _ _ _ _ (c.send_continue.ensures.waits failed) (ask_goes p c.args.ask.now c.requires.asked c.requires.told)
-          (took_front _ _ _ c.send_continue.result failed c.send_continue.ensures.wrote);
-    }
+pub push-requires-clause-asked : goal.push-requires-clause-asked
+push-requires-clause-asked g c = c.requires.asked ∙ ap Ok c.in-PutManifest.is
 
-pub returns-in-Whole-clause-responds : goal.returns-in-Whole-clause-responds
-returns-in-Whole-clause-responds g c =
-    let p = parts_in c.args.head.now in
-    let goes = ask_goes p c.args.ask.now c.requires.asked c.requires.told in
-    let said = subst (Appends (g.O.Sink.taken c.args.sink.now) (g.O.Sink.taken c.send_continue.new.sink)) (line_is_interim p goes)
-    (took_all _ _ _ c.send_continue.result (sym c.is_err.ensures.value ∙ c.if-is_err.false) c.send_continue.ensures.wrote) in
-    let all = c.conclude.ensures.concludes in
-    let faults = g.O.Sink.faults in
-    let since = Rose (faults c.args.sink.now) (faults c.conclude.new.sink) in
-    let so = concludes_before (Rose (faults c.send_continue.new.sink) (faults c.conclude.new.sink)) since p (record { reply = c.decide-reply.result.0; content = all.bytes })
-    (g.O.Sink.taken c.send_continue.new.sink) (g.O.Sink.taken c.conclude.new.sink) c.conclude.result (rose_before (faults c.args.sink.now) (faults c.send_continue.new.sink) (faults c.conclude.new.sink) c.send_continue.ensures.cause.later) all.so in
-    let decides = c.decide-reply.ensures.decides (record { reply = c.decide-reply.result.0; content = all.bytes }) (record { reply = refl; content = all.of_blob }) in
-    record {
-      holds = decides.holds;
-      chain = decides.chain;
-      behind = whole_behind since p _ _ _ (g.O.Sink.taken c.send_continue.new.sink) (ap Some c.limit_of.ensures ∙ ask_limits p c.args.ask.now c.requires.asked) said (λ _. goes) decides.holds c.decide-reply.result.0 all.bytes c.conclude.result
-          (ask_replies p c.args.ask.now decides.holds _ c.requires.asked decides.replies_so) c.in-Whole.ensures.body so;
-    }
+pub returns-in-PutManifest-clause-responds : goal.returns-in-PutManifest-clause-responds
+returns-in-PutManifest-clause-responds g c = c.push.ensures.responds _ _
 
-pub returns-in_default-clause-responds : goal.returns-in_default-clause-responds
-returns-in_default-clause-responds g c =
-    let p = parts_in c.args.head.now in
-    let goes = ask_goes p c.args.ask.now c.requires.asked c.requires.told in
-    let said = subst (Appends (g.O.Sink.taken c.args.sink.now) (g.O.Sink.taken c.send_continue.new.sink)) (line_is_interim p goes)
-    (took_all _ _ _ c.send_continue.result (sym c.is_err.ensures.value ∙ c.if-is_err.false) c.send_continue.ensures.wrote) in
-    let faults = g.O.Sink.faults in
-    let since = Rose (faults c.args.sink.now) (faults c.break_off.new.sink) in
-    let wrote = λ (b : Begun) (start : Option (List ℕ)) (parts : b.parts ≡ p) (begun : Appends start (g.O.Sink.taken c.send_continue.new.sink) (interim b.parts)).
-    wrote_before (Rose (faults c.send_continue.new.sink) (faults c.break_off.new.sink)) since c.break_off.result start (g.O.Sink.taken c.break_off.new.sink) (broken b c.drop_body.result)
-    (rose_before (faults c.args.sink.now) (faults c.send_continue.new.sink) (faults c.break_off.new.sink) c.send_continue.ensures.cause.later) (c.break_off.ensures.wrote b start parts begun) in
-    record {
-      holds = [];
-      chain = λ next h. h;
-      behind = cut_behind since p _ _ _ (g.O.Sink.taken c.send_continue.new.sink) (ap Some c.limit_of.ensures ∙ ask_limits p c.args.ask.now c.requires.asked) said (λ _. goes) c.drop_body.result c.break_off.result
-          c.drop_body.ensures.body c.break_off.ensures.ends wrote c.drop_body.ensures.at_end;
-    }
+pub upload-requires-clause-asked : goal.upload-requires-clause-asked
+upload-requires-clause-asked g c = c.requires.asked ∙ ap Ok c.in-Patch.is
 
-pub returns-in_default-clause-causes : goal.returns-in_default-clause-causes
-returns-in_default-clause-causes g c = broken_causes _ _ _ _ _ _ c.drop_body.result c.break_off.result c.break_off.ensures.ends c.drop_body.ensures.cause c.drop_body.ensures.long
-    (later_than _ _ _ _ c.send_continue.ensures.cause.later c.break_off.ensures.cause)
+pub returns-in-Patch-clause-responds : goal.returns-in-Patch-clause-responds
+returns-in-Patch-clause-responds g c = c.upload.ensures.responds _ _
+
+pub upload-requires-in-Finish-clause-asked : goal.upload-requires-in-Finish-clause-asked
+upload-requires-in-Finish-clause-asked g c = c.requires.asked ∙ ap Ok c.in-Finish.is
+
+pub returns-in-Finish-clause-responds : goal.returns-in-Finish-clause-responds
+returns-in-Finish-clause-responds g c = c.upload-in-Finish.ensures.responds _ _
+
+pub single-requires-clause-single : goal.single-requires-clause-single
+single-requires-clause-single g c = single_by c.args.ask.now c.in_default.not-PutManifest c.in_default.not-Patch c.in_default.not-Finish

@@ -6,7 +6,7 @@ use Rattle.reg_session.specs.Requests.{parts_in, head_only}
 use Rattle.reg_session.specs.Works.{refused, began, Wrote}
 use Rattle.reg_session.proofs.ConcludeLaws.{refuses_memory}
 use Rattle.reg_session.proofs.RespondLaws.{memory_broken, refused_text, refused_head}
-use Rattle.reg_session.proofs.exchange.break_off.Goals as goal
+use Rattle.reg_session.proofs.refusing.break_off.Goals as goal
 
 pub returns-in-TooLong-clause-wrote : goal.returns-in-TooLong-clause-wrote
 returns-in-TooLong-clause-wrote g c b start parts said =
