@@ -3,7 +3,7 @@ use depot_api::NoMemory;
 use std::alloc::Global;
 
 /// As many bytes are shown.
-const SHOWN: usize = 1_000;
+const SHOWN: usize = 4_000;
 
 /// A status, how many bytes there are, and the first of them.
 pub fn shown(alloc: Global, status: u8, bytes: &[u8]) -> Result<String, NoMemory> {

@@ -2,7 +2,7 @@
 ghost use Rattle.std.specs.Prelude.{◌≡◌, ◌≤◌, ◌↔◌, map};
 ghost use Rattle.std.specs.String.{string_bytes};
 ghost use Rattle.reg_session.specs.Sessions.{IfBlobFault};
-ghost use Rattle.reg_run.specs.Devices.{seen, depots, read_of, written_of};
+ghost use Rattle.reg_run.specs.Devices.{seen, depots, drawn_of, read_of, written_of};
 ghost use Rattle.reg_run.specs.Arguments.{AreArguments, usage};
 ghost use Rattle.reg_run.specs.Statuses.{code, status_of};
 ghost use Rattle.reg_run.specs.Runs.{Once, HandsBack, Writes};
@@ -44,16 +44,16 @@ where
     ensures usage { ¬ AreArguments (map string_bytes words.now)
         → Writes (written_of O.taken O.faults out.old out.new) usage }
     ensures untouched { ¬ AreArguments (map string_bytes words.now)
-        → (result.depot ≡ depot) × (input.new ≡ input.old) }
+        → (result.depot ≡ depot) × (input.new ≡ input.old) × (ids.new ≡ ids.old) }
     // The session, and the status.
     ensures once { AreArguments (map string_bytes words.now)
         → Once D.B.faults (depots D.held D.faults depot result.depot)
+        (drawn_of C.reading I.words clock.old ids.old ids.new)
         (read_of S.left S.given S.faults input.old input.new)
         (written_of O.taken O.faults out.old out.new) result.status }
     // What is not needed comes back as it was.
     ensures keeper { result.keeper ≡ keeper }
     ensures clock { clock.new ≡ clock.old }
-    ensures ids { ids.new ≡ ids.old }
 {
     if !are_accepted(words) {
         let _ = write_all(out, USAGE.as_bytes());
@@ -79,12 +79,12 @@ fn once<D: Depot, K, C: Clock, I: Ids, S: Source, O: Sink>(
 where
     D::B: Drop,
     ensures once { Once D.B.faults (depots D.held D.faults depot result.depot)
+        (drawn_of C.reading I.words clock.now ids.old ids.new)
         (read_of S.left S.given S.faults input.old input.new)
         (written_of O.taken O.faults out.old out.new) result.status }
     ensures keeper { result.keeper ≡ keeper }
-    ensures ids { ids.new ≡ ids.old }
 {
-    let mut world = begin(depot, keeper);
+    let mut world = begin(alloc, depot, keeper);
     let ended = serve_alone(alloc, &mut world, clock, ids, input, out);
     let (mut depot, keeper) = world.stop();
     let status = settle(&mut depot, ended);
