@@ -1,0 +1,4 @@
+mod FormLaws
+mod NextLaws
+mod ItemLaws
+mod DerivedLaws

@@ -1,0 +1,16 @@
+use Rattle.std.proofs.Common.{◌≡◌, ◌∷◌, ◌++◌, subst, sym}
+use Rattle.reg_names.specs.Digests.{IsDigest}
+use Rattle.reg_names.specs.Names.{IsName}
+use Rattle.keeper_api.specs.Fields.{ended}
+use Rattle.keeper_api.specs.Tables.{Fits}
+use Rattle.reg_tables.proofs.NextLaws.{named_part}
+use Rattle.reg_tables.proofs.next.next_named.Goals as goal
+
+pub digest_of-requires : goal.digest_of-requires
+digest_of-requires g c =
+    let a = c.args in
+    let front : c.in_ok-front.front.items ≡ ended a.name.now ++ a.manifest.now = rw c.in_ok-front.ensures.ok at c.spot_part.ensures.part in
+    let name : IsName a.name.now = rw c.in_ok-front.ensures.ok at c.spot_part.ensures.name in
+    let manifest : IsDigest a.manifest.now = rw c.in_ok-front.ensures.ok at c.spot_part.ensures.digest in
+    let fits : Fits (5 ∷ ((ended a.name.now ++ a.manifest.now) ++ c.in-Some.part)) c.in-Some.row = rw (c.deref.ensures.value, front, c.in-Some.is) at c.in_ok-part.ensures.fits in
+    subst IsDigest (sym c.as_slice.ensures) (named_part a.name.now a.manifest.now c.in-Some.part c.in-Some.row name manifest fits)

@@ -1,0 +1,9 @@
+pub mod Keys
+pub mod Spelled
+pub mod Finds
+pub mod Nexts
+pub mod Items
+pub mod Derived
+pub mod InnerForms
+pub mod InnerNexts
+pub mod InnerItems

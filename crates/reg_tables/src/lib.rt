@@ -1,0 +1,20 @@
+//! The tables over a keeper: typed rows by typed keys, read one by one.
+//! Each look-up answers the row of its key as a value, whose spelling is the row, and leaves the keeper as it is; the
+//! spellings of keys and of rows are in `specs/Keys.antt` and `specs/Spelled.antt`. For all that serve from tables.
+//! The tables are this registry's own; what they speak of is that of the OCI Distribution Specification 1.1.
+#![tactic(auto)]
+
+mod find;
+mod keys;
+mod laws;
+mod next;
+mod rows;
+mod trail;
+
+pub use find::{find_blob, find_link, find_manifest, find_payload, find_row, find_tag, noting};
+pub use keeper_api::{Bytes, Keeper};
+pub use laws::{given_rows_are_derived, rows_tell_the_past};
+pub use next::{next_child, next_link, next_named, next_tag};
+pub use reg_entries::{Kind, Named, Trouble};
+pub use rows::{BlobRow, LinkRow, ManifestRow, number_of};
+pub use trail::Trail;
