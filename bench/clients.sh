@@ -80,13 +80,13 @@ expect "curl, three requests on one connection" \
     "$(ask -o /dev/null -o /dev/null -o /dev/null -w '%{num_connects} ' "$here/" "$here/library/hello/tags/list" "$here/nowhere")" "1 0 0 "
 expect "curl, a body that nobody wants" "$(ask -X GET --data-binary "@$work/layer" -o /dev/null -w '%{http_code}' "$here/")" 200
 expect "curl, a push that waits" \
-    "$(ask -T "$work/manifest" -H 'Expect: 100-continue' -o /dev/null -w '%{http_code}' "$here/library/hello/manifests/v3")" 405
+    "$(ask -T "$work/manifest" -H 'Expect: 100-continue' -o /dev/null -w '%{http_code}' "$here/library/hello/manifests/v3")" 201
 
 image=127.0.0.1:$port/library/hello
 look() { timeout 20 skopeo inspect --tls-verify=false "$@"; }
 look --raw "docker://$image:v1" > "$work/pulled" || fail "skopeo: no manifest"
 cmp "$work/pulled" "$work/manifest" || fail "skopeo: another manifest"
-expect "skopeo, the digest" "$(look --format '{{.Digest}} {{.RepoTags}}' "docker://$image:v2")" "$digest [v1 v2]"
+expect "skopeo, the digest" "$(look --format '{{.Digest}} {{.RepoTags}}' "docker://$image:v2")" "$digest [v1 v2 v3]"
 look --config --raw "docker://$image@$digest" > "$work/pulled" || fail "skopeo: no configuration"
 cmp "$work/pulled" "$work/config" || fail "skopeo: another configuration"
 timeout 20 skopeo copy --quiet --src-tls-verify=false "docker://$image:v1" "dir:$work/copy" || fail "skopeo: no copy"
