@@ -16,7 +16,8 @@ const HELLO: &str = "sha256:2cf24dba5fb0a30e26e83b2ac5b9e29e1b161e5c1fa7425e7304
 const BRACES: &str = "sha256:44136fa355b3678a1146ad16f7e8649e94fb4fc21fe77e8310c060f61caaff8a";
 
 /// The manifest that names both.
-const MANIFEST: &str = "{\"schemaVersion\":2,\"mediaType\":\"application/vnd.oci.image.manifest.v1+json\",\"config\":{\"mediaType\":\"application/vnd.oci.empty.v1+json\",\"digest\":\"sha256:44136fa355b3678a1146ad16f7e8649e94fb4fc21fe77e8310c060f61caaff8a\",\"size\":2},\"layers\":[{\"mediaType\":\"application/octet-stream\",\"digest\":\"sha256:2cf24dba5fb0a30e26e83b2ac5b9e29e1b161e5c1fa7425e73043362938b9824\",\"size\":5}]}";
+const MANIFEST: &str =
+    "{\"schemaVersion\":2,\"mediaType\":\"application/vnd.oci.image.manifest.v1+json\",\"config\":{\"mediaType\":\"application/vnd.oci.empty.v1+json\",\"digest\":\"sha256:44136fa355b3678a1146ad16f7e8649e94fb4fc21fe77e8310c060f61caaff8a\",\"size\":2},\"layers\":[{\"mediaType\":\"application/octet-stream\",\"digest\":\"sha256:2cf24dba5fb0a30e26e83b2ac5b9e29e1b161e5c1fa7425e73043362938b9824\",\"size\":5}]}";
 
 const DIGEST: &str = "sha256:98e12f26c1511cdf1aa0ed2ae2ead722b2a3f5d57c57f99e65a44faf9504395c";
 
@@ -150,17 +151,20 @@ fn blobs(alloc: Global, id: &str) -> Result<String, NoMemory> {
          PATCH {at}{id} HTTP/1.1\r\nContent-Length: 5\r\n\r\nhello\
          PUT {at}{id}?digest={HELLO} HTTP/1.1\r\n\r\n\
          POST {at} HTTP/1.1\r\n\r\n\
-         PUT {at}{id}?digest={BRACES} HTTP/1.1\r\nContent-Length: 2\r\n\r\n{{}}")?)
+         PUT {at}{id}?digest={BRACES} HTTP/1.1\r\nContent-Length: 2\r\n\r\n{{}}"
+    )?)
 }
 
 fn manifest(alloc: Global) -> Result<String, NoMemory> {
     let at = "/v2/a/manifests/v1";
     Ok(format!(in alloc;
-        "PUT {at} HTTP/1.1\r\nContent-Length: 371\r\n\r\n{MANIFEST}GET {at} HTTP/1.1\r\n\r\n")?)
+        "PUT {at} HTTP/1.1\r\nContent-Length: 371\r\n\r\n{MANIFEST}GET {at} HTTP/1.1\r\n\r\n"
+    )?)
 }
 
 // A removal of the manifest with its tag, and a list of the tags that are left.
 fn removal(alloc: Global) -> Result<String, NoMemory> {
     Ok(format!(in alloc;
-        "DELETE /v2/a/manifests/{DIGEST} HTTP/1.1\r\n\r\nGET /v2/a/tags/list HTTP/1.1\r\n\r\n")?)
+        "DELETE /v2/a/manifests/{DIGEST} HTTP/1.1\r\n\r\nGET /v2/a/tags/list HTTP/1.1\r\n\r\n"
+    )?)
 }
