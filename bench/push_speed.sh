@@ -120,17 +120,27 @@ print(f"a blob of {megabytes} MB: {megabytes / mine:.0f} MB/s, {megabytes / (min
 print(f"memory: {max(memory)} KB")
 print(f"images of five small blobs: {small(ours):.1f} a second, docker-registry {small(theirs):.1f}")
 
-# The files of such an image, each written, synced and renamed, and its folder synced, in the folders that a push makes.
-def synced(path, content):
-    folder = os.path.dirname(path)
-    os.makedirs(folder, exist_ok=True)
-    with open(path + ".new", "wb") as file:
-        file.write(content)
-        os.fsync(file.fileno())
-    os.rename(path + ".new", path)
+# The files of such an image, each written, synced and renamed, and its folder synced, as the folder above each new one is; and what a
+# push removes at its end.
+def sync(folder):
     handle = os.open(folder, os.O_RDONLY)
     os.fsync(handle)
     os.close(handle)
+
+def made(folder):
+    if not os.path.isdir(folder):
+        made(os.path.dirname(folder))
+        os.mkdir(folder)
+        sync(os.path.dirname(folder))
+
+def synced(path, content):
+    made(os.path.dirname(path))
+    with open(path + ".new", "wb") as file:
+        file.write(content)
+        file.flush()
+        os.fsync(file.fileno())
+    os.rename(path + ".new", path)
+    sync(os.path.dirname(path))
 
 def files(number):
     for part in range(5):
@@ -138,6 +148,8 @@ def files(number):
         synced(f"{work}/alone/uploads/{name}/startedat", b"now")
         synced(f"{work}/alone/blobs/{name[:2]}/{name}/data", b"small")
         synced(f"{work}/alone/layers/{name}/link", name.encode())
+        os.remove(f"{work}/alone/uploads/{name}/startedat")
+        sync(f"{work}/alone/uploads/{name}")
     name = digest(b"%d" % number)[7:]
     synced(f"{work}/alone/blobs/{name[:2]}/{name}/data", b"manifest")
     for path in f"revisions/{name}/link", f"tags/v{number}/index/{name}/link", f"tags/v{number}/current/link":
