@@ -54,21 +54,18 @@ PYTHON
 digest=sha256:$(sha256sum < "$work/manifest" | cut -d' ' -f1)
 layer=sha256:$(sha256sum < "$work/layer" | cut -d' ' -f1)
 
-port=$(python3 -c 'import socket; s = socket.socket(); s.bind(("127.0.0.1", 0)); print(s.getsockname()[1])')
+port=$(free_port)
 socat "TCP-LISTEN:$port,bind=127.0.0.1,reuseaddr,fork,max-children=32" "EXEC:$program once --root $work/depot" 2> /dev/null &
 # A client that tries TLS first gets a refusal, and the run that gave it ends with status 10, of which socat would tell.
 listener=$!
 trap 'kill "$listener" 2> /dev/null || true; rm -rf "$work"' EXIT
-for _ in $(seq 50); do
-    curl -s -o "$work/base" "http://127.0.0.1:$port/v2/" && break
-    sleep 0.1
-done
+until_up "$port"
 
 here=http://127.0.0.1:$port/v2
 ask() { timeout 20 curl -sS --max-time 10 "$@"; }
 expect() { [ "$2" = "$3" ] || fail "$1: $2 in place of $3"; echo "$1: as expected"; }
 
-expect "curl, the base" "$(cat "$work/base")" "{}"
+expect "curl, the base" "$(ask "$here/")" "{}"
 ask -o "$work/pulled" "$here/library/hello/manifests/v1"
 cmp "$work/pulled" "$work/manifest" || fail "curl: another manifest"
 ask -o "$work/pulled" "$here/library/hello/blobs/$layer"

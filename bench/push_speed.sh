@@ -3,7 +3,7 @@
 # then images of five small blobs and a manifest, one connection an image, for some seconds. Prints megabytes a second of the blob,
 # ours also without the time that SHA-256 alone takes over the same bytes; the most memory that `once` has had; images a second; and
 # how many images a second the same files alone would be, written and synced by one Python process. Nothing is left unsynced.
-# Ends with status 1 where an answer is not 201 or 202. Needs socat, python3 and docker-registry. All files are below a temporary
+# Ends with status 1 where an answer is not 201 or 202. Needs curl, socat, python3 and docker-registry. All files are below a temporary
 # directory, which is removed at the end. Build the programs first: `make demo`, and `rt run` in crates/seal_speed.
 #     bench/push_speed.sh PROGRAM SEAL_SPEED [MEGABYTES]
 # shellcheck source=bench/timing.sh
@@ -11,7 +11,7 @@
 program=$(program_at "${1:?"the built program registry"}") || fail "no program: $1"
 sealing=$(program_at "${2:?"the built program seal_speed"}") || fail "no program: $2"
 megabytes=${3:-50}
-for tool in socat python3 docker-registry; do
+for tool in curl socat python3 docker-registry; do
     command -v "$tool" > /dev/null || fail "no $tool"
 done
 mkdir "$work/ours" "$work/theirs" "$work/depot"
@@ -19,12 +19,11 @@ head -c $((megabytes << 20)) /dev/urandom > "$work/depot/large"
 hash=$(best_processor_time "$sealing" hash "$work/depot" large) || fail "hashing failed"
 read=$(best_processor_time "$sealing" read "$work/depot" large) || fail "reading failed"
 
-port() { python3 -c 'import socket; s = socket.socket(); s.bind(("127.0.0.1", 0)); print(s.getsockname()[1])'; }
-ours=$(port)
+ours=$(free_port)
 socat "TCP-LISTEN:$ours,bind=127.0.0.1,reuseaddr,fork,max-children=32" "EXEC:$program once --root $work/ours" 2> /dev/null &
 listeners=($!)
 trap 'kill "${listeners[@]}" 2> /dev/null || true; rm -rf "$work"' EXIT
-theirs=$(port)
+theirs=$(free_port)
 cat > "$work/config.yml" <<YAML
 version: 0.1
 log: {level: error, accesslog: {disabled: true}}
@@ -34,12 +33,8 @@ http: {addr: "127.0.0.1:$theirs"}
 YAML
 docker-registry serve "$work/config.yml" > /dev/null 2>&1 &
 listeners+=($!)
-for at in "$ours" "$theirs"; do
-    for _ in $(seq 50); do
-        curl -s -o /dev/null "http://127.0.0.1:$at/v2/" && break
-        sleep 0.1
-    done
-done
+until_up "$ours"
+until_up "$theirs"
 
 PROGRAM=$program python3 - "$work" "$ours" "$theirs" "$megabytes" $((hash - read)) <<'PYTHON'
 import hashlib, http.client, json, os, sys, time

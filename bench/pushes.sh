@@ -91,19 +91,11 @@ with open(f"{work}/blob", "wb") as file:
     file.write(os.urandom(1_000_000))
 PYTHON
 
-port() { python3 -c 'import socket; s = socket.socket(); s.bind(("127.0.0.1", 0)); print(s.getsockname()[1])'; }
 mkdir "$work/depot" "$work/theirs"
-ours=$(port)
+ours=$(free_port)
 socat "TCP-LISTEN:$ours,bind=127.0.0.1,reuseaddr,fork,max-children=32" "EXEC:$program once --root $work/depot" 2> /dev/null &
 listeners=($!)
 trap 'kill "${listeners[@]}" 2> /dev/null || true; chmod -R u+rwX "$work"; rm -rf "$work"' EXIT
-until_up() {
-    for _ in $(seq 50); do
-        curl -s -o /dev/null "http://127.0.0.1:$1/v2/" && return
-        sleep 0.1
-    done
-    fail "nobody listens"
-}
 until_up "$ours"
 here=http://127.0.0.1:$ours/v2
 oci=application/vnd.oci.image.manifest.v1+json
@@ -170,7 +162,7 @@ expect "curl, a manifest whose blobs are elsewhere" \
 # ---- docker-registry, over one's depot and the other's
 serve_theirs() {
     local there
-    there=$(port)
+    there=$(free_port)
     cat > "$work/config.yml" <<YAML
 version: 0.1
 storage:

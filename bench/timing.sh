@@ -84,3 +84,15 @@ memory_at_end() {
     [ -n "$line" ] || return 1
     echo "$memory"
 }
+
+# A port of the loopback address that nobody listens on.
+free_port() { python3 -c 'import socket; s = socket.socket(); s.bind(("127.0.0.1", 0)); print(s.getsockname()[1])'; }
+
+# Waits until a registry answers at a port of the loopback address.
+until_up() {
+    for _ in $(seq 50); do
+        curl -s -o /dev/null "http://127.0.0.1:$1/v2/" && return
+        sleep 0.1
+    done
+    fail "nobody listens"
+}
