@@ -1,8 +1,8 @@
 #!/usr/bin/env bash
 # Pushes a blob (POST, PATCH and PUT on one connection) to `once` behind socat, and to Debian's docker-registry, five times each; and
-# then images of five small blobs and a manifest, one connection an image, for some seconds. Prints megabytes a second of the blob,
-# ours also without the time that SHA-256 alone takes over the same bytes; the most memory that `once` has had; images a second; and
-# how many images a second the same files alone would be, written and synced by one Python process. Nothing is left unsynced.
+# then, in four ways, images of five small blobs and a manifest. Prints megabytes a second of the blob, ours also without the time that
+# SHA-256 alone takes over the same bytes; the most memory that `once` has had; and for each way images a second of both, and of as many
+# threads of Python that only write and sync the same files. Nothing is left unsynced.
 # Ends with status 1 where an answer is not 201 or 202. Needs curl, socat, python3 and docker-registry. All files are below a temporary
 # directory, which is removed at the end. Build the programs first: `make demo`, and `rt run` in crates/seal_speed.
 #     bench/push_speed.sh PROGRAM SEAL_SPEED [MEGABYTES]
@@ -37,9 +37,10 @@ until_up "$ours"
 until_up "$theirs"
 
 PROGRAM=$program python3 - "$work" "$ours" "$theirs" "$megabytes" $((hash - read)) <<'PYTHON'
-import hashlib, http.client, json, os, sys, time
+import concurrent.futures, contextlib, hashlib, http.client, itertools, json, os, statistics, sys, time
 work, ours, theirs, megabytes, hashing = sys.argv[1], int(sys.argv[2]), int(sys.argv[3]), int(sys.argv[4]), int(sys.argv[5]) / 1e6
 OCI = "application/vnd.oci.image"
+SECONDS = 2
 
 def digest(content):
     return "sha256:" + hashlib.sha256(content).hexdigest()
@@ -56,14 +57,17 @@ class Client:
             sys.exit(f"{method} {target}: {reply.status} in place of {wanted}")
         return reply.getheader("Location")
 
-    def blob(self, name, content):
+    # In a PATCH, as docker and skopeo push, or with the PUT, as containerd and oras do.
+    def blob(self, name, content, patched):
         at = self.ask("POST", f"/v2/{name}/blobs/uploads/", 202)
-        at = self.ask("PATCH", at, 202, content)
-        self.ask("PUT", at + ("&" if "?" in at else "?") + "digest=" + digest(content), 201)
+        rest = content
+        if patched:
+            at, rest = self.ask("PATCH", at, 202, content), b""
+        self.ask("PUT", at + ("&" if "?" in at else "?") + "digest=" + digest(content), 201, rest)
         return {"mediaType": f"{OCI}.layer.v1.tar", "digest": digest(content), "size": len(content)}
 
-    def image(self, name, number):
-        blobs = [self.blob(name, b"%d of %d" % (part, number)) for part in range(5)]
+    def image(self, name, number, patched):
+        blobs = [self.blob(name, b"%d of %s" % (part, number.encode()), patched) for part in range(5)]
         manifest = {"schemaVersion": 2, "mediaType": f"{OCI}.manifest.v1+json", "config": blobs[0] | {"mediaType": f"{OCI}.config.v1+json"}, "layers": blobs[1:]}
         self.ask("PUT", f"/v2/{name}/manifests/v{number}", 201, json.dumps(manifest).encode(), f"{OCI}.manifest.v1+json")
 
@@ -98,14 +102,23 @@ def large(port):
         client.line.close()
     return least
 
-def small(port, seconds=5):
-    number, begin = 0, time.monotonic()
-    while time.monotonic() - begin < seconds:
-        client = Client(port)
-        client.image("small", number)
+# Images a second: so many clients, each with a connection for all of its images, or one an image.
+def small(port, patched, clients, kept):
+    begin = time.monotonic()
+
+    def push(_):
+        pushed, client = 0, Client(port)
+        while time.monotonic() - begin < SECONDS:
+            client.image("small", str(next(fresh)), patched)
+            pushed += 1
+            if not kept:
+                client.line.close()
+                client = Client(port)
         client.line.close()
-        number += 1
-    return number / (time.monotonic() - begin)
+        return pushed
+
+    with concurrent.futures.ThreadPoolExecutor(clients) as pool:
+        return sum(pool.map(push, range(clients))) / (time.monotonic() - begin)
 
 memory = []
 peer = large(theirs)
@@ -113,8 +126,6 @@ memory.clear()
 mine = large(ours)
 print(f"a blob of {megabytes} MB: {megabytes / mine:.0f} MB/s, {megabytes / (mine - hashing):.0f} without SHA-256 ({hashing * 1000:.0f} ms), docker-registry {megabytes / peer:.0f}")
 print(f"memory: {max(memory)} KB")
-print(f"images of five small blobs: {small(ours):.1f} a second, docker-registry {small(theirs):.1f}")
-
 # The files of such an image, each written, synced and renamed, and its folder synced, as the folder above each new one is; and what a
 # push removes at its end.
 def sync(folder):
@@ -125,7 +136,8 @@ def sync(folder):
 def made(folder):
     if not os.path.isdir(folder):
         made(os.path.dirname(folder))
-        os.mkdir(folder)
+        with contextlib.suppress(FileExistsError):
+            os.mkdir(folder)
         sync(os.path.dirname(folder))
 
 def synced(path, content):
@@ -150,9 +162,29 @@ def files(number):
     for path in f"revisions/{name}/link", f"tags/v{number}/index/{name}/link", f"tags/v{number}/current/link":
         synced(f"{work}/alone/{path}", name.encode())
 
-number, begin = 0, time.monotonic()
-while time.monotonic() - begin < 3:
-    files(number)
-    number += 1
-print(f"the syncs alone: {number / (time.monotonic() - begin):.1f} images a second")
+# Images a second of so many that sync side by side.
+def alone(workers, seconds):
+    begin, pushed = time.monotonic(), itertools.count()
+
+    def push(_):
+        while time.monotonic() - begin < seconds:
+            files(next(fresh))
+            next(pushed)
+
+    with concurrent.futures.ThreadPoolExecutor(workers) as pool:
+        list(pool.map(push, range(workers)))
+    return next(pushed) / (time.monotonic() - begin)
+
+fresh = itertools.count()
+WAYS = {
+    "in a PATCH, a connection an image": (True, 1, False),
+    "with its PUT, a connection an image": (False, 1, False),
+    "with its PUT, all on one connection": (False, 1, True),
+    "with its PUT, four clients": (False, 4, True),
+}
+# The three in turns, since how long a disk syncs changes from second to second.
+for way, how in WAYS.items():
+    turns = [(small(ours, *how), small(theirs, *how), alone(how[1], SECONDS)) for turn in range(5)]
+    mine, peer, bound = (statistics.median(rates) for rates in zip(*turns))
+    print(f"images of five small blobs, each {way}: {mine:.1f} a second, docker-registry {peer:.1f}, the syncs alone {bound:.1f}")
 PYTHON
