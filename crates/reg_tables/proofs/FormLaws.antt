@@ -71,7 +71,7 @@ two_numbers bytes a =
     let two = number_first [] one.rest one.fields in
     omega (arith, one.long, two.long, nothing_left two.rest two.fields)
 
-one_number : (bytes : List ℕ) → AreFields (field.Number ∷ []) bytes → length bytes ≡ 8
+pub one_number : (bytes : List ℕ) → AreFields (field.Number ∷ []) bytes → length bytes ≡ 8
 one_number bytes a = let one = number_first [] bytes a in omega (arith, one.long, nothing_left one.rest one.fields)
 
 -- one field alone

@@ -2,3 +2,5 @@ mod FormLaws
 mod NextLaws
 mod ItemLaws
 mod DerivedLaws
+mod MetaLaws
+mod FirstLaws

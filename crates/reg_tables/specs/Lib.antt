@@ -1,9 +1,12 @@
 pub mod Keys
+pub mod Meta
 pub mod Spelled
 pub mod Finds
 pub mod Nexts
+pub mod Firsts
 pub mod Items
 pub mod Derived
 pub mod InnerForms
 pub mod InnerNexts
+pub mod InnerFirsts
 pub mod InnerItems

@@ -5,15 +5,19 @@
 #![tactic(auto)]
 
 mod find;
+mod first;
 mod keys;
 mod laws;
+mod meta;
 mod next;
 mod rows;
 mod trail;
 
 pub use find::{find_blob, find_link, find_manifest, find_payload, find_row, find_tag, noting};
-pub use keeper_api::{Bytes, Keeper};
+pub use first::first_row;
+pub use keeper_api::{Bytes, Keeper, Key};
 pub use laws::{given_rows_are_derived, rows_tell_the_past};
+pub use meta::{delay_bytes, delay_key, find_delay, has_version, version_bytes, version_key};
 pub use next::{next_child, next_link, next_named, next_tag};
 pub use reg_entries::{Kind, Named, Trouble};
 pub use rows::{BlobRow, LinkRow, ManifestRow, number_of};

@@ -138,8 +138,8 @@ fn next_behind<K: Keeper>(
     }
 }
 
-// The row at the least key above another.
-fn next<K: Keeper>(
+/// The row at the least key above another.
+pub(crate) fn next<K: Keeper>(
     alloc: Global,
     keeper: &mut K,
     after: &Key,
