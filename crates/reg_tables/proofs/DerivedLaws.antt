@@ -6,7 +6,7 @@ use Rattle.reg_journal.specs.Changes.{replay}
 use Rattle.reg_journal.specs.Past.{Past}
 use Rattle.reg_journal.proofs.JournalLaws.{entries_are}
 use Rattle.keeper_api.specs.Rows.{Rows}
-use Rattle.reg_tables.specs.Items.{Item, last_number, entry_at, manifest_at, payload_at, manifest_queued, tag_at, named_at, child_at, link_at, blob_at, blob_queued, none_at, elsewhere, item_of}
+use Rattle.reg_tables.specs.Items.{Item, last_number, entry_at, manifest_at, tag_at, named_at, child_at, link_at, blob_at, none_at, elsewhere, item_of}
 use Rattle.reg_tables.specs.Derived.{row_of, with_past, rows_of, IsDerived, journal_limit, last_row}
 use Rattle.reg_tables.specs.Keys.{last_number_key}
 
@@ -15,14 +15,11 @@ again : (past : Past) (item : Item) (row : Option (List ℕ)) → row_of past it
 again past last_number row = refl
 again past (entry_at number) row = refl
 again past (manifest_at name digest) row = refl
-again past (payload_at name digest) row = refl
-again past (manifest_queued name digest) row = refl
 again past (tag_at name tag) row = refl
 again past (named_at name manifest digest) row = refl
 again past (child_at name parent child) row = refl
 again past (link_at name digest) row = refl
 again past (blob_at digest) row = refl
-again past (blob_queued digest) row = refl
 again past none_at row = refl
 again past elsewhere row = refl
 

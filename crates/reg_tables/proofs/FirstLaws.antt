@@ -1,14 +1,13 @@
 -- The first row of a table, and of all.
-use Rattle.std.proofs.Common.{◌≡◌, ℕ, ◌+◌, ◌<◌, ◌≤◌, true, List, [], ◌∷◌, Option, Some, None, refl, sym, ap, subst, ◌∙◌, arith, inl, inr, Less, Equal, Greater, Ordering}
+use Rattle.std.proofs.Common.{◌≡◌, ℕ, ◌+◌, ◌≤◌, true, List, [], ◌∷◌, Some, None, refl, sym, ap, subst, ◌∙◌, arith, inl, inr, Greater, Ordering}
 use Rattle.std.specs.Prelude.{is_some, IsTrue}
 use Rattle.std.specs.Ordering.{nat_cmp, is_lt, ordering_then}
 use Rattle.std.specs.Cmp.{nat_cmp_is}
 use Rattle.std.specs.Cmp.Lexicographic.{slice_cmp}
 use Rattle.std.proofs.lemmas.Bool.{cases_lt}
-use Rattle.std.proofs.lemmas.Bool.Decides.{nat_tests}
-use Rattle.keeper_api.specs.Rows.{Rows, IsAbove, is_below, IsNextRow, table_of}
-use Rattle.reg_tables.specs.Firsts.{IsOfTables, AreEmpty, IsFirst}
-use Rattle.reg_tables.specs.InnerFirsts.{IsEmptyAt, AreEmptyBelow, IsFirstAt, IsFirstAbove}
+use Rattle.keeper_api.specs.Rows.{Rows, IsAbove, is_below}
+use Rattle.reg_tables.specs.Firsts.{IsOfTables, IsFirst}
+use Rattle.reg_tables.specs.InnerFirsts.{AreEmptyBelow, IsFirstAt, IsFirstAbove}
 use Rattle.reg_tables.proofs.NextLaws.{same_front}
 
 -- a key of a table is above the one without bytes, or it is that one

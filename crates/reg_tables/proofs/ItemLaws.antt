@@ -13,7 +13,7 @@ use Rattle.keeper_api.specs.Fields.{ended}
 use Rattle.keeper_api.specs.InnerFields as inner
 use Rattle.keeper_api.specs.InnerFields.{strip, rest_if}
 use Rattle.keeper_api.proofs.FieldLaws.{strips}
-use Rattle.reg_tables.specs.Items.{Item, last_number, manifest_at, payload_at, manifest_queued, tag_at, named_at, child_at, link_at, blob_at, blob_queued, none_at, elsewhere, with_byte, ended_at, of_digest, of_spot, of_pair, of_tag_end, of_tag, of_meta, in_table, item_of}
+use Rattle.reg_tables.specs.Items.{Item, last_number, manifest_at, tag_at, named_at, child_at, link_at, blob_at, none_at, elsewhere, with_byte, ended_at, of_digest, of_spot, of_pair, of_tag_end, of_tag, of_meta, in_table, item_of}
 use Rattle.reg_tables.specs.InnerItems.{key_of, is_proper}
 
 -- ---- names and tags are read off the front
@@ -78,14 +78,17 @@ spot_own item name digest is digest_is = ap (of_spot item) (name_own name digest
 pub tag_key_own : (name tag : List ℕ) → IsName name → IsTag tag → of_tag (ended_at (ended name ++ ended tag)) ≡ tag_at name tag
 tag_key_own name tag is tag_is = ap of_tag (name_own name (ended tag) is) ∙ ap (of_tag_end name) (tag_own tag tag_is)
 
-pub pair_own : (item : List ℕ → List ℕ → List ℕ → Item) (name first second : List ℕ) → IsName name → IsDigest first → IsDigest second → of_pair item (ended_at ((ended name ++ first) ++ second)) ≡ item name first second
-pair_own item name first second is first_is second_is =
+-- of a name, a digest, and what is behind it
+pub pair_of : (item : List ℕ → List ℕ → List ℕ → Item) (name first rest : List ℕ) → IsName name → IsDigest first → of_pair item (ended_at ((ended name ++ first) ++ rest)) ≡ of_digest (item name first) rest
+pair_of item name first rest is first_is =
     let long : length first ≡ 33 = digest_long first first_is in
-    ap (λ (t : List ℕ). of_pair item (ended_at t)) (append_assoc (ended name) first second)
-    ∙ ap (of_pair item) (name_own name (first ++ second) is)
-    ∙ ap (λ (x : List ℕ). of_digest (item name x) (drop 33 (first ++ second))) (take_at first second 33 long)
-    ∙ ap (of_digest (item name first)) (drop_at first second 33 long)
-    ∙ digest_own (item name first) second second_is
+    ap (λ (t : List ℕ). of_pair item (ended_at t)) (append_assoc (ended name) first rest)
+    ∙ ap (of_pair item) (name_own name (first ++ rest) is)
+    ∙ ap (λ (x : List ℕ). of_digest (item name x) (drop 33 (first ++ rest))) (take_at first rest 33 long)
+    ∙ ap (of_digest (item name first)) (drop_at first rest 33 long)
+
+pub pair_own : (item : List ℕ → List ℕ → List ℕ → Item) (name first second : List ℕ) → IsName name → IsDigest first → IsDigest second → of_pair item (ended_at ((ended name ++ first) ++ second)) ≡ item name first second
+pair_own item name first second is first_is second_is = pair_of item name first second is first_is ∙ digest_own (item name first) second second_is
 
 -- ---- and are spelled so
 
@@ -150,14 +153,11 @@ in_table_spelled table key =
     step table 0 key _ _ (meta_spelled key)
     (step table 1 key _ _ (λ p. refl)
     (step table 2 key _ _ (spot_spelled 2 manifest_at key (λ name digest. refl) (ended_at key) refl)
-    (step table 3 key _ _ (spot_spelled 3 payload_at key (λ name digest. refl) (ended_at key) refl)
     (step table 4 key _ _ (tag_spelled key (ended_at key) refl)
     (step table 5 key _ _ (pair_spelled 5 named_at key (λ name first second. refl) (ended_at key) refl)
     (step table 6 key _ _ (pair_spelled 6 child_at key (λ name first second. refl) (ended_at key) refl)
     (step table 7 key _ _ (spot_spelled 7 link_at key (λ name digest. refl) (ended_at key) refl)
-    (step table 8 key _ _ (digest_spelled (8 ∷ key) blob_at key refl)
-    (step table 9 key _ _ (spot_spelled 9 manifest_queued key (λ name digest. refl) (ended_at key) refl)
-    (step table 10 key _ _ (digest_spelled (10 ∷ key) blob_queued key refl) (λ p. absurd (false≢true p))))))))))))
+    (step table 8 key _ _ (digest_spelled (8 ∷ key) blob_at key refl) (λ p. absurd (false≢true p)))))))))
 
 pub spelled : (key : List ℕ) → is_proper (item_of key) ≡ true → key ≡ key_of (item_of key)
 spelled [] proper = absurd (false≢true proper)

@@ -4,3 +4,17 @@ mod ItemLaws
 mod DerivedLaws
 mod MetaLaws
 mod FirstLaws
+mod PendingLaws
+mod GatherLaws
+mod FitLaws
+mod StepLaws
+mod TouchLaws
+mod BlobLaws
+mod LogLaws
+mod DropLaws
+mod UntagLaws
+mod RemoveLaws
+mod RemovedLaws
+mod StoreLaws
+mod EntryLaws
+mod WriteLaws

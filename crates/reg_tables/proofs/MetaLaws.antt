@@ -1,12 +1,13 @@
 -- What may stand at the keys of the version and of the delay.
-use Rattle.std.proofs.Common.{◌≡◌, ℕ, ◌^◌, ◌<◌, List, [], ◌∷◌, ◌++◌, length, refl, sym, ap, subst, ◌∙◌, arith, inl, inr}
+use Rattle.std.proofs.Common.{◌≡◌, ℕ, List, [], ◌∷◌, length, refl, sym, ap, ◌∙◌, arith, inl, inr}
 use Rattle.std.specs.Prelude.{slice_index}
 use Rattle.std.proofs.lemmas.List.{append-nil}
 use Rattle.reg_journal.specs.Entries.{IsNumber}
 use Rattle.reg_journal.specs.Spelling.{number_field}
 use Rattle.keeper_api.specs.declared.field.Field.TheVariants as field
 use Rattle.keeper_api.specs.Fields.{AreFields}
-use Rattle.keeper_api.specs.Tables.{lines, HasLine, Fits}
+use Rattle.keeper_api.specs.Tables.{lines, Fits}
+use Rattle.reg_tables.specs.Keys.{last_number_key}
 use Rattle.reg_tables.specs.Meta.{version_key, version_row, delay_key, delay_row}
 use Rattle.reg_tables.proofs.FormLaws.{lines_of, in_table, one_field, one_number}
 
@@ -40,5 +41,16 @@ delay_form row h =
       | inr (inl f) ↦ one_number row f.row_form
       | inr (inr (inl f)) ↦ absurd (omega (arith, at_byte 2 1 f.key_fields))
       | inr (inr (inr (inl f))) ↦ absurd (omega (arith, at_byte 3 1 f.key_fields))
+      | inr (inr (inr (inr e))) ↦ absurd e
+    ]
+
+pub last_number_form : (row : List ℕ) → Fits last_number_key row → length row ≡ 8
+unfolding lines_of
+last_number_form row h =
+    elim (in_table 0 (3 ∷ []) row lines h) [
+      | inl f ↦ absurd (omega (arith, at_byte 0 3 f.key_fields))
+      | inr (inl f) ↦ absurd (omega (arith, at_byte 1 3 f.key_fields))
+      | inr (inr (inl f)) ↦ absurd (omega (arith, at_byte 2 3 f.key_fields))
+      | inr (inr (inr (inl f))) ↦ one_number row f.row_form
       | inr (inr (inr (inr e))) ↦ absurd e
     ]

@@ -33,7 +33,7 @@ same_front [] x y = refl
 same_front (a ∷ front) x y = rw (itself a) (same_front front x y)
 
 -- a key above one that begins with the front, which does not begin with it itself, is above all that do
-beyond : (front x y key : List ℕ) → is_below (front ++ x) key ≡ true → ((z : List ℕ) → ¬ (key ≡ front ++ z)) → is_below (front ++ y) key ≡ true
+pub beyond : (front x y key : List ℕ) → is_below (front ++ x) key ≡ true → ((z : List ℕ) → ¬ (key ≡ front ++ z)) → is_below (front ++ y) key ≡ true
 beyond [] x y key b n = absurd (n key refl)
 beyond (a ∷ front) x y [] b n = cc
 beyond (a ∷ front) x y (e ∷ key) b n = by (nat_cmp a e) refl (λ h same. beyond front x y key h (λ z i. n z (ap (λ t. t ∷ key) (sym same) ∙ ap (λ t. a ∷ t) i))) b

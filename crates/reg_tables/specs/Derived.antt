@@ -1,5 +1,5 @@
 -- The rows that a journal derives.
-use Rattle.std.specs.Prelude.{◌≡◌, ℕ, ◌+◌, ◌≤◌, Bool, false, List, [], ◌∷◌, ◌++◌, length, Option, Some, None, option_map, if◌then◌else◌}
+use Rattle.std.specs.Prelude.{◌≡◌, ℕ, ◌+◌, ◌≤◌, ◌||◌, Bool, false, List, [], ◌∷◌, ◌++◌, length, Option, Some, None, option_map, if◌then◌else◌}
 use Rattle.std.specs.List.{list_any}
 use Rattle.reg_names.specs.Named.{free_in, has_digest}
 use Rattle.reg_entries.specs.Documents.{KeptManifest}
@@ -8,11 +8,13 @@ use Rattle.reg_journal.specs.declared.entry.What.{What}
 use Rattle.reg_journal.specs.declared.entry.What.TheVariants.{DropManifest, RemovedManifest, Collect, Erase}
 use Rattle.reg_journal.specs.declared.past.KeptLink.{KeptLink}
 use Rattle.reg_journal.specs.declared.past.Condemned.{Condemned}
-use Rattle.reg_journal.specs.Changes.{is_same, is_at, replay}
+use Rattle.reg_journal.specs.Changes.{is_same, replay}
 use Rattle.reg_journal.specs.Past.{Past}
 use Rattle.reg_journal.specs.Spelling.{number_field, kind_field, free_field, entry_spelled}
 use Rattle.keeper_api.specs.Rows.{Rows}
-use Rattle.reg_tables.specs.Items.{Item, last_number, entry_at, manifest_at, payload_at, manifest_queued, tag_at, named_at, child_at, link_at, blob_at, blob_queued, none_at, elsewhere, item_of}
+use Rattle.keeper_api.specs.Rows as keys
+use Rattle.reg_tables.specs.Keys.{payload_key, manifest_queue_key, blob_queue_key}
+use Rattle.reg_tables.specs.Items.{Item, last_number, entry_at, manifest_at, tag_at, named_at, child_at, link_at, blob_at, none_at, elsewhere, item_of}
 
 -- ---- rows, each by what it is of
 
@@ -72,9 +74,6 @@ row_of past (child_at name parent child) row = child_row child (past.manifests n
 row_of past (link_at name digest) row = link_row (past.links name digest)
 row_of past (blob_at digest) row = blob_row (past.condemned digest) (past.sizes digest) (past.blob_touched digest)
 row_of past none_at row = None
-row_of past (payload_at name digest) row = row
-row_of past (manifest_queued name digest) row = row
-row_of past (blob_queued digest) row = row
 row_of past elsewhere row = row
 
 -- ---- the rows of a journal
@@ -101,24 +100,19 @@ pub record IsDerived (journal : List Entry) (rows : Rows) : Type 0 where
 
 -- ---- what goes with a manifest and with a blob
 
--- whether the item is a manifest's payload or its place among those that wait
-abbrev pub is_beside_manifest : List ℕ → List ℕ → Item → Bool
-is_beside_manifest name digest (payload_at of other) = is_at name digest of other
-is_beside_manifest name digest (manifest_queued of other) = is_at name digest of other
-is_beside_manifest name digest item = false
+-- the key is that of a manifest's payload, or of its place among those that wait for a review
+abbrev pub is_beside_manifest : List ℕ → List ℕ → List ℕ → Bool
+is_beside_manifest name digest key =
+    keys.is_at (payload_key name digest) key || keys.is_at (manifest_queue_key name digest) key
 
-abbrev pub is_beside_blob : List ℕ → Item → Bool
-is_beside_blob digest (blob_queued other) = is_same digest other
-is_beside_blob digest item = false
-
--- whether an entry takes away the manifest or the blob that the item goes with
-abbrev pub takes : What → Item → Bool
-takes (DropManifest name digest) item = is_beside_manifest name digest item
-takes (RemovedManifest name digest) item = is_beside_manifest name digest item
-takes (Collect name digest) item = is_beside_manifest name digest item
-takes (Erase digest) item = is_beside_blob digest item
-takes what item = false
+-- whether an entry takes away the manifest, or the blob, beside whose row that of the key is
+abbrev pub takes : What → List ℕ → Bool
+takes (DropManifest name digest) key = is_beside_manifest name digest key
+takes (RemovedManifest name digest) key = is_beside_manifest name digest key
+takes (Collect name digest) key = is_beside_manifest name digest key
+takes (Erase digest) key = keys.is_at (blob_queue_key digest) key
+takes what key = false
 
 -- the rows without those that the entries take away beside their own
 abbrev pub without_taken : List Entry → Rows → Rows
-without_taken entries rows = on_items (λ item row. if list_any (λ e. takes e.what item) entries then None else row) rows
+without_taken entries rows = λ key. if list_any (λ e. takes e.what key) entries then None else rows key

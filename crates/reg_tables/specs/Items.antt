@@ -5,23 +5,19 @@ pub data Item : Type 0 where
   -- the number of the last entry, and an entry by its number as it is spelled
   last_number : Item
   entry_at : List ℕ → Item
-  -- a manifest of a repository, its bytes, and its place among those that wait for a review
+  -- a manifest and a tag of a repository
   manifest_at : List ℕ → List ℕ → Item
-  payload_at : List ℕ → List ℕ → Item
-  manifest_queued : List ℕ → List ℕ → Item
-  -- a tag of a repository
   tag_at : List ℕ → List ℕ → Item
   -- a digest that a manifest of a repository names, and one that it lists
   named_at : List ℕ → List ℕ → List ℕ → Item
   child_at : List ℕ → List ℕ → List ℕ → Item
   -- a link of a repository
   link_at : List ℕ → List ℕ → Item
-  -- the blob of a digest, and its place among those that wait
+  -- the blob of a digest
   blob_at : List ℕ → Item
-  blob_queued : List ℕ → Item
   -- nothing: the key is spelled as none of its table is
   none_at : Item
-  -- something else
+  -- something of another table
   elsewhere : Item
 
 -- ---- parts of keys
@@ -78,14 +74,11 @@ in_table table key =
     if table == 0 then of_meta key
     else if table == 1 then entry_at key
     else if table == 2 then of_spot manifest_at (ended_at key)
-    else if table == 3 then of_spot payload_at (ended_at key)
     else if table == 4 then of_tag (ended_at key)
     else if table == 5 then of_pair named_at (ended_at key)
     else if table == 6 then of_pair child_at (ended_at key)
     else if table == 7 then of_spot link_at (ended_at key)
     else if table == 8 then of_digest blob_at key
-    else if table == 9 then of_spot manifest_queued (ended_at key)
-    else if table == 10 then of_digest blob_queued key
     else elsewhere
 
 -- what a key is of: its table's number comes first

@@ -35,3 +35,10 @@ named_key name manifest digest = spot_key 5 name manifest ++ digest
 
 abbrev pub child_key : List ℕ → List ℕ → List ℕ → List ℕ
 child_key name parent child = spot_key 6 name parent ++ child
+
+-- of the place of a manifest, and of a blob, among those that wait for a review
+abbrev pub manifest_queue_key : List ℕ → List ℕ → List ℕ
+manifest_queue_key name digest = spot_key 9 name digest
+
+abbrev pub blob_queue_key : List ℕ → List ℕ
+blob_queue_key digest = 10 ∷ digest

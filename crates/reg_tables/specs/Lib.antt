@@ -6,7 +6,10 @@ pub mod Nexts
 pub mod Firsts
 pub mod Items
 pub mod Derived
+pub mod Writing
 pub mod InnerForms
 pub mod InnerNexts
 pub mod InnerFirsts
 pub mod InnerItems
+pub mod InnerPending
+pub mod InnerSteps

@@ -3,6 +3,7 @@ ghost use Rattle.std.specs.Prelude.{◌≡◌, ◌∷◌, ◌++◌, IfOk, OnOk, 
 ghost use Rattle.keeper_api.specs.Fields.{ended};
 ghost use Rattle.reg_names.specs.Digests.{IsDigest};
 ghost use Rattle.reg_names.specs.Names.{IsName};
+ghost use Rattle.reg_names.specs.Tags.{IsTag};
 ghost use Rattle.reg_tables.specs.InnerNexts.{bound_of};
 ghost use Rattle.reg_tables.specs.Keys.{spot_key, tag_key, blob_key};
 
@@ -17,7 +18,9 @@ pub(crate) fn spot_key(
     name: &Name,
     digest: &Digest,
 ) -> Result<Key, NoMemory>
-    ensures { IfOk result (λ k. k ≡ spot_key table name.now digest.now) }
+    ensures key { IfOk result (λ k. k ≡ spot_key table name.now digest.now) }
+    ensures name { OnOk result (IsName name.now) }
+    ensures digest { OnOk result (IsDigest digest.now) }
 {
     let bytes = spot_part(alloc, name, digest)?;
     Ok(Key::new(table, Bytes::from_vec(bytes)))
@@ -25,17 +28,18 @@ pub(crate) fn spot_key(
 
 /// The key of a tag.
 pub(crate) fn tag_key(alloc: Global, name: &Name, tag: &Tag) -> Result<Key, NoMemory>
-    ensures { IfOk result (λ k. k ≡ tag_key name.now tag.now) }
+    ensures key { IfOk result (λ k. k ≡ tag_key name.now tag.now) }
+    ensures name { OnOk result (IsName name.now) }
+    ensures tag { OnOk result (IsTag tag.now) }
 {
-    let mut bytes = Vec::new(alloc);
-    put_ended(&mut bytes, name.as_str())?;
-    put_ended(&mut bytes, tag.as_str())?;
+    let bytes = tag_part(alloc, name, tag)?;
     Ok(Key::new(4, Bytes::from_vec(bytes)))
 }
 
 /// The key of a blob.
 pub(crate) fn blob_key(alloc: Global, digest: &Digest) -> Result<Key, NoMemory>
-    ensures { IfOk result (λ k. k ≡ blob_key digest.now) }
+    ensures key { IfOk result (λ k. k ≡ blob_key digest.now) }
+    ensures digest { OnOk result (IsDigest digest.now) }
 {
     let mut bytes = Vec::new(alloc);
     put_digest(&mut bytes, digest)?;
@@ -61,6 +65,18 @@ pub(crate) fn spot_part(alloc: Global, name: &Name, digest: &Digest) -> Result<V
     let mut bytes = Vec::new(alloc);
     put_ended(&mut bytes, name.as_str())?;
     put_digest(&mut bytes, digest)?;
+    Ok(bytes)
+}
+
+/// What the key of a tag has there.
+pub(crate) fn tag_part(alloc: Global, name: &Name, tag: &Tag) -> Result<Vec<u8>, NoMemory>
+    ensures part { IfOk result (λ b. b.items ≡ ended name.now ++ ended tag.now) }
+    ensures name { OnOk result (IsName name.now) }
+    ensures tag { OnOk result (IsTag tag.now) }
+{
+    let mut bytes = Vec::new(alloc);
+    put_ended(&mut bytes, name.as_str())?;
+    put_ended(&mut bytes, tag.as_str())?;
     Ok(bytes)
 }
 
@@ -103,7 +119,8 @@ fn put_ended(bytes: &mut Vec<u8>, text: &str) -> Result<(), NoMemory>
     Ok(())
 }
 
-fn put_digest(bytes: &mut Vec<u8>, digest: &Digest) -> Result<(), NoMemory>
+/// Adds a digest.
+pub(crate) fn put_digest(bytes: &mut Vec<u8>, digest: &Digest) -> Result<(), NoMemory>
     ensures bytes { OnOk result (bytes.new.items ≡ bytes.old.items ++ digest.now) }
     ensures digest { IsDigest digest.now }
 {

@@ -4,14 +4,22 @@
 //! The tables are this registry's own; what they speak of is that of the OCI Distribution Specification 1.1.
 #![tactic(auto)]
 
+mod entries;
 mod find;
 mod first;
+mod gather;
 mod keys;
 mod laws;
+mod manifests;
 mod meta;
 mod next;
+mod payload;
+mod pending;
 mod rows;
+mod steps;
+mod strokes;
 mod trail;
+mod writing;
 
 pub use find::{find_blob, find_link, find_manifest, find_payload, find_row, find_tag, noting};
 pub use first::first_row;
@@ -19,6 +27,8 @@ pub use keeper_api::{Bytes, Keeper, Key};
 pub use laws::{given_rows_are_derived, rows_tell_the_past};
 pub use meta::{delay_bytes, delay_key, find_delay, has_version, version_bytes, version_key};
 pub use next::{next_child, next_link, next_named, next_tag};
+pub use payload::payload_change;
 pub use reg_entries::{Kind, Named, Trouble};
 pub use rows::{BlobRow, LinkRow, ManifestRow, number_of};
 pub use trail::Trail;
+pub use writing::{JOURNAL_LIMIT, write};

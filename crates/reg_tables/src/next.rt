@@ -116,8 +116,8 @@ pub fn next_named<K: Keeper>(
     }
 }
 
-// The least row that has more behind the front than the bound, and what it has there.
-fn next_behind<K: Keeper>(
+/// The least row that has more behind the front than the bound, and what it has there.
+pub(crate) fn next_behind<K: Keeper>(
     alloc: Global,
     keeper: &mut K,
     table: u8,
@@ -155,8 +155,8 @@ pub(crate) fn next<K: Keeper>(
     }
 }
 
-// What a key has behind a front, where it begins with it.
-fn behind<'k>(table: u8, front: &[u8], key: &'k Key) -> Option<&'k [u8]>
+/// What a key has behind a front, where it begins with it.
+pub(crate) fn behind<'k>(table: u8, front: &[u8], key: &'k Key) -> Option<&'k [u8]>
     ensures { MatchOption result ((rest : List ℕ) → ¬ (key.now ≡ table ∷ (front.now ++ rest)))
         (λ rest. key.now ≡ table ∷ (front.now ++ rest.now)) }
 {

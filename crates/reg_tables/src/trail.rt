@@ -1,7 +1,8 @@
 //! The entries that were committed.
-ghost use Rattle.std.specs.Prelude.{◌≡◌, []};
+ghost use Rattle.std.specs.Prelude.{◌≡◌, ◌++◌, [], length, take, OnOk, OnErr};
 
 use reg_journal::Entry;
+use reg_names::NoMemory;
 use std::alloc::Global;
 use std::marker::Model;
 
@@ -35,5 +36,28 @@ impl Trail {
         ensures { result.now ≡ self.now }
     {
         &self.entries
+    }
+
+    /// Adds entries behind the last one. Where memory is wanting, it stays as it was.
+    pub(crate) fn append(&mut self, entries: Vec<Entry>) -> Result<(), NoMemory>
+        ensures longer { OnOk result (self.new ≡ self.old ++ entries.items) }
+        ensures same { OnErr result (self.new ≡ self.old) }
+    {
+        let mut entries = entries;
+        self.entries.append(&mut entries)?;
+        Ok(())
+    }
+
+    pub(crate) fn len(&self) -> usize
+        ensures { result ≡ length self.now }
+    {
+        self.entries.len()
+    }
+
+    /// Keeps so many entries, from the first on.
+    pub(crate) fn truncate(&mut self, len: usize)
+        ensures { self.new ≡ take len self.old }
+    {
+        self.entries.truncate(len);
     }
 }
