@@ -1,6 +1,7 @@
-//! The tables over a keeper: typed rows by typed keys, read one by one.
-//! Each look-up answers the row of its key as a value, whose spelling is the row, and leaves the keeper as it is; the
-//! spellings of keys and of rows are in `specs/Keys.antt` and `specs/Spelled.antt`. For all that serve from tables.
+//! The tables over a keeper: typed rows by typed keys, read one by one, and written with the journal.
+//! Each look-up answers the row of its key as a value, whose spelling is the row, and leaves the keeper as it is; `write`
+//! adds entries and the rows that they derive in one commit. The spellings of keys and of rows are in `specs/Keys.antt`
+//! and `specs/Spelled.antt`, and what a journal derives in `specs/Derived.antt`. For all that serve from tables.
 //! The tables are this registry's own; what they speak of is that of the OCI Distribution Specification 1.1.
 #![tactic(auto)]
 

@@ -123,7 +123,8 @@ fn drop_manifest(
     named: &[Bytes],
     children: &[Bytes],
 ) -> Result<(), NoMemory>
-    ensures { OnOk result ((past : Past) (base rows : Rows) → after rows pending.old ≡ with_past past base →
+    ensures { OnOk result ((past : Past) (base rows : Rows) →
+        after rows pending.old ≡ with_past past base →
         ArePartsBehind (spot_key 5 name.now digest.now) None (after rows pending.old) named.now →
         ArePartsBehind (spot_key 6 name.now digest.now) None (after rows pending.old) children.now →
         after rows pending.new ≡ with_past (with_manifest name.now digest.now None past) base) }
@@ -144,7 +145,8 @@ fn put_all_named(
     named: &[Named],
 ) -> Result<(), NoMemory>
     ensures { OnOk result ((rows base : Rows) (past : Past) (kind : Kind) (size : ℕ) →
-        after rows pending.old ≡ with_past (with_lists name.now manifest.now kind size [] [] past) base →
+        after rows pending.old
+        ≡ with_past (with_lists name.now manifest.now kind size [] [] past) base →
         after rows pending.new
         ≡ with_past (with_lists name.now manifest.now kind size named.now [] past) base) }
 {
@@ -162,8 +164,10 @@ fn put_children(
     parent: &Digest,
     children: &[Digest],
 ) -> Result<(), NoMemory>
-    ensures { OnOk result ((rows base : Rows) (past : Past) (kind : Kind) (size : ℕ) (named : List NamedDigest) →
-        after rows pending.old ≡ with_past (with_lists name.now parent.now kind size named [] past) base →
+    ensures { OnOk result ((rows base : Rows) (past : Past)
+        (kind : Kind) (size : ℕ) (named : List NamedDigest) →
+        after rows pending.old
+        ≡ with_past (with_lists name.now parent.now kind size named [] past) base →
         after rows pending.new
         ≡ with_past (with_lists name.now parent.now kind size named children.now past) base) }
 {
