@@ -1,5 +1,5 @@
 -- What is found in link files is the answer of the one-thread registry.
-use Rattle.std.proofs.Common.{◌≡◌, ℕ, Bool, true, false, List, [], Option, Some, None, Result, Ok, Err, refl, sym, ap, subst}
+use Rattle.std.proofs.Common.{◌≡◌, ℕ, Bool, true, List, [], Option, Some, None, Result, Ok, Err, refl, sym, ap, subst}
 use Rattle.std.specs.Prelude.{IsTrue, IfOk}
 use Rattle.reg_names.specs.declared.reference.Reference.{Reference}
 use Rattle.reg_names.specs.declared.refused.Refused.{Refused}
@@ -16,24 +16,14 @@ use Rattle.reg_entries.specs.declared.ask.Ask.{Ask}
 use Rattle.reg_entries.specs.declared.ask.Ask.TheVariants as asks
 use Rattle.reg_entries.specs.declared.reply.Reply.{Reply}
 use Rattle.reg_entries.specs.declared.reply.Reply.TheVariants as replies
-use Rattle.reg_model.specs.Facts.{Facts}
-use Rattle.reg_model.specs.Answers.{lacking, LacksIn, BlobBy, ManifestBy, ManifestUnder, referred, IsReply, IsAnswer, Answer, plain, SendsBy}
-use Rattle.reg_model.specs.Blobs.{GivesBlob}
-use Rattle.reg_model.specs.Fits.{IsLacking, FitsBlob, FitsManifest, MayBe, Fits}
+use Rattle.reg_model.specs.Answers.{lacking, LacksIn, BlobBy, ManifestBy, ManifestUnder, referred, IsReply, IsAnswer, plain, SendsBy}
+use Rattle.reg_model.specs.Fits.{IsLacking, MayBe, Fits}
+use Rattle.reg_model.proofs.ReplyLaws.{lacking_sends, of_lacking, manifest_fits, blob_fits}
 use Rattle.files_service.specs.Facts.{facts_of}
 use Rattle.files_service.specs.Answers.{Answers}
 use Rattle.files_service.specs.InnerAnswers.{FindsBlob, FindsReferred, LacksManifest}
 
 -- ---- what is lacked
-
--- no bytes follow a refusal
-lacking_sends : (facts : Facts) (ask : Ask) (known : Bool) (number : ℕ) → SendsBy facts ask [] (lacking known number)
-lacking_sends facts ask true number = refl
-lacking_sends facts ask false number = refl
-
--- what a reply says of a refusal, it says of one for what is lacked
-of_lacking : (number : ℕ) (reply : Reply) (Says : Reply → Type 0) → ((known : Bool) → Says (lacking known number)) → IsLacking number reply → Says reply
-of_lacking number reply Says says h = subst Says (sym h.1) (says h.0)
 
 lacking_answers : (held : Holding) (ask : Ask) (number : ℕ) (reply : Reply) → ((known : Bool) → Fits ask (plain (lacking known number))) → (IsTrue held.tells → IsReply (Means held.files) ask reply) → IsLacking number reply → Answers held ask (plain reply)
 lacking_answers held ask number reply fits is h = record {
@@ -46,10 +36,6 @@ lacked : (held : Holding) (ask : Ask) (name : List ℕ) (number : ℕ) (result :
     → Finds held result (λ files. LacksIn (Means files) name number) → IfOk result (IsLacking number) → IfOk result (λ reply. Answers held ask (plain reply))
 lacked held ask name number (Ok reply) fits is finds lacks = lacking_answers held ask number reply fits (λ tells. is reply tells (finds tells)) lacks
 lacked held ask name number (Err e) fits is finds lacks = tt
-
--- a reply that comes without a blob is all of the answer
-pub alone : {B : Type 0} (rest : B → Rest) (reply : Reply) (Says : Answer → Type 0) → Says (plain reply) → (answer : Answer) → GivesBlob rest (reply, None) answer → Says answer
-alone rest reply Says says answer h = subst Says (sym (λ i. record { reply = h.reply i; content = h.content i })) says
 
 -- ---- manifests
 
@@ -75,10 +61,6 @@ under_lacks : (files : Files) (name : List ℕ) (digest : Option (List ℕ)) (re
 under_lacks files name None reply none h = h
 under_lacks files name (Some digest) reply none h = subst (λ k. ManifestBy (Means files) name digest k reply) (sym none) h
 
-manifest_fits : (at : Option Reference) (known : Bool) → FitsManifest at (lacking known manifest_unknown)
-manifest_fits at true = (true, refl)
-manifest_fits at false = (false, refl)
-
 pub manifest_missing : (held : Holding) (name : List ℕ) (at : Option Reference) (found : Result (Option StoredManifest) Refused) → found ≡ Ok None → Finds held found (λ files. FindsReferred files name at) → (result : Result Reply Refused) → Finds held result (λ files. LacksIn (Means files) name manifest_unknown) → IfOk result (IsLacking manifest_unknown)
     → IfOk result (λ reply. Answers held (asks.GetManifest name at) (plain reply))
 manifest_missing held name at found e finds result =
@@ -87,10 +69,6 @@ manifest_missing held name at found e finds result =
     (λ reply tells lacks. under_lacks held.files name (referred (Means held.files) name at) reply (subst (λ r. IfOk r (FindsReferred held.files name at)) e (finds tells)) lacks)
 
 -- ---- blobs
-
-blob_fits : (digest : List ℕ) (known : Bool) → FitsBlob digest [] (lacking known blob_unknown)
-blob_fits digest true = ((true, refl), refl)
-blob_fits digest false = ((false, refl), refl)
 
 pub blob_missing : {B : Type 0} (rest : B → Rest) (held : Holding) (name digest : List ℕ) (found : Result (Option B) Refused) → found ≡ Ok None → Finds held found (FindsBlob rest name digest) → (result : Result Reply Refused) → Finds held result (λ files. LacksIn (Means files) name blob_unknown) → IfOk result (IsLacking blob_unknown)
     → IfOk result (λ reply. Answers held (asks.GetBlob name digest) (plain reply))

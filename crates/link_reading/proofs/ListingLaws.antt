@@ -1,7 +1,6 @@
 -- What a walk through the links of a repository's tags tells of them.
-use Rattle.std.proofs.Common.{◌≡◌, ℕ, zero, suc, ◌≤◌, Bool, true, false, List, [], ◌∷◌, ◌++◌, length, codes, Option, Some, None, refl, sym, ap, subst, ◌∙◌, true≢false, arith, length-append, nat_eq}
-use Rattle.std.specs.Prelude.{◌&&◌, IsTrue, IsSome, IfSome, is_some}
-use Rattle.std.specs.Option.{option_eq}
+use Rattle.std.proofs.Common.{◌≡◌, ℕ, true, List, [], ◌∷◌, ◌++◌, codes, Option, Some, None, refl, sym, ap, ◌∙◌, true≢false}
+use Rattle.std.specs.Prelude.{◌&&◌, IsTrue, IsSome, is_some}
 use Rattle.std.proofs.lemmas.Bool.{and_parts}
 use Rattle.reg_names.specs.Names.{IsName}
 use Rattle.reg_names.specs.Tags.{IsTag}
@@ -13,24 +12,15 @@ use Rattle.link_paths.specs.Places.{tag_path, tag_index_path}
 use Rattle.link_paths.specs.Folders.{tags_folder, digest_link}
 use Rattle.link_paths.proofs.FolderPlaces.{tag_begins, tag_index_begins}
 use Rattle.link_paths.proofs.PathOrder.{in_order, tags_in_order}
-use Rattle.reg_entries.specs.State.{State}
-use Rattle.reg_entries.specs.Listing.{is_lesser, is_behind, IsNextTag, AreNextTags, last_of, IsListing}
-use Rattle.reg_entries.proofs.ListingLaws.{behind_all}
+use Rattle.reg_entries.specs.Listing.{is_lesser, is_behind, IsNextTag, AreNextTags, last_of}
+use Rattle.reg_entries.proofs.ListingLaws.{behind_all, last_pushed, next_pushed}
 use Rattle.link_reading.specs.Meaning.{Means}
 use Rattle.link_reading.specs.InnerWalks.{IsFirst}
 use Rattle.link_reading.specs.InnerLinks.{tag_quest}
 use Rattle.link_reading.specs.InnerListing.{LiesBefore}
 use Rattle.link_reading.proofs.LinkLaws.{listed_by, tag_path_begins}
 
--- ---- tags that follow each other
-
-last_pushed : (last : Option (List ℕ)) (found : List (List ℕ)) (u : List ℕ) → last_of last (found ++ u ∷ []) ≡ Some u
-last_pushed last [] u = refl
-last_pushed last (t ∷ ts) u = last_pushed (Some t) ts u
-
-next_pushed : (state : State) (name : List ℕ) (last : Option (List ℕ)) (found : List (List ℕ)) (u : List ℕ) → AreNextTags state name last found → IsNextTag state name (last_of last found) (Some u) → AreNextTags state name last (found ++ u ∷ [])
-next_pushed state name last [] u chain next = (next, tt)
-next_pushed state name last (t ∷ ts) u chain next = (chain.0, next_pushed state name (Some t) ts u chain.1 next)
+-- ---- links of tags in order
 
 -- the links of a greater tag lie above those of a tag
 pub above_links : (name tag digest greater : List ℕ) → IsName name → IsTag tag → IsDigest digest → IsTag greater → is_lesser tag greater ≡ true → is_below (tag_index_path name tag digest) (tag_path name greater) ≡ true
@@ -94,27 +84,3 @@ module _ (files : Files) (name : List ℕ) (last : Option (List ℕ)) (after : O
           before = λ t k lies. tags_in_order name u t own.0 own.1.0 k ∙ sym (ap (λ l. is_behind l t) (last_pushed last found u)) ∙ lies;
           ahead = λ t k lies later. ap (λ l. is_behind l t) (last_pushed last found u) ∙ sym (tags_in_order name u t own.0 own.1.0 k) ∙ later;
         }
-
--- ---- listings
-
--- there is room for one more
-pub room_pushed : (most : Option ℕ) (found : List (List ℕ)) (u : List ℕ) → IfSome most (λ k. length found ≤ k) → (most ≡ Some (length found) → ⊥) → IfSome most (λ k. length (found ++ u ∷ []) ≤ k)
-room_pushed None found u room short = tt
-room_pushed (Some k) found u room short = grind (arith, length-append)
-
--- what the test of a limit tells
-pub some_asked : (most : Option ℕ) (none : Bool) → none ≡ option_eq nat_eq most (Some 0) → none ≡ false → most ≡ Some 0 → ⊥
-some_asked most none is fails e = true≢false (ap (λ m. option_eq nat_eq m (Some 0)) (sym e) ∙ sym is ∙ fails)
-
-pub lists_none : (state : State) (name : List ℕ) (last : Option (List ℕ)) (most : Option ℕ) (found : List (List ℕ)) → most ≡ Some 0 → found ≡ [] → IsListing state name most last found None
-lists_none state name last most found e none = subst (λ m. IsListing state name m last found None) (sym e) (none, refl)
-
-pub lists_whole : (state : State) (name : List ℕ) (last : Option (List ℕ)) (most : Option ℕ) (found : List (List ℕ)) → (most ≡ Some 0 → ⊥) → AreNextTags state name last found → IsNextTag state name (last_of last found) None → IfSome most (λ k. length found ≤ k) → IsListing state name most last found None
-lists_whole state name last None found some chain ended room = (chain, ended, room)
-lists_whole state name last (Some zero) found some chain ended room = absurd (some refl)
-lists_whole state name last (Some (suc k)) found some chain ended room = (chain, ended, room)
-
-pub lists_cut : (state : State) (name : List ℕ) (last : Option (List ℕ)) (most : Option ℕ) (found : List (List ℕ)) (next : List ℕ) → (most ≡ Some 0 → ⊥) → AreNextTags state name last found → IsNextTag state name (last_of last found) (Some next) → most ≡ Some (length found) → IsListing state name most last found most
-lists_cut state name last None found next some chain follows full = absurd (cc full)
-lists_cut state name last (Some zero) found next some chain follows full = absurd (some refl)
-lists_cut state name last (Some (suc k)) found next some chain follows full = (chain, (next, follows), refl, cc full)

@@ -1,7 +1,8 @@
 -- The tags of a repository in byte order: there is one list of them.
-use Rattle.std.proofs.Common.{◌≡◌, ℕ, zero, suc, ◌<◌, Bool, true, false, List, [], ◌∷◌, length, nat_eq, Option, Some, None, refl, sym, ap, subst, ◌∙◌, true≢false, arith}
-use Rattle.std.specs.Prelude.{◌||◌, IsSome, is_some}
+use Rattle.std.proofs.Common.{◌≡◌, ℕ, zero, suc, ◌<◌, Bool, true, false, List, [], ◌∷◌, ◌++◌, length, length-append, ◌≤◌, nat_eq, Option, Some, None, refl, sym, ap, subst, ◌∙◌, true≢false, arith}
+use Rattle.std.specs.Prelude.{◌||◌, IsSome, IfSome, is_some}
 use Rattle.std.specs.List.{list_any}
+use Rattle.std.specs.Option.{option_eq}
 use Rattle.std.specs.declared.cmp.Ordering.{Ordering}
 use Rattle.std.specs.declared.cmp.Ordering.TheVariants.{Less, Equal, Greater}
 use Rattle.std.specs.Ordering.{nat_cmp, is_lt, is_eq, ordering_reverse}
@@ -141,3 +142,37 @@ module _ (state : State) (name : List ℕ) where
       there : (b : Bool) → list_any (pointwise nat_eq t) us ≡ true → (b || list_any (pointwise nat_eq t) us) ≡ true
       there true e = refl
       there false e = e
+
+-- ---- tags that follow each other
+
+pub last_pushed : (last : Option (List ℕ)) (found : List (List ℕ)) (u : List ℕ) → last_of last (found ++ u ∷ []) ≡ Some u
+last_pushed last [] u = refl
+last_pushed last (t ∷ ts) u = last_pushed (Some t) ts u
+
+pub next_pushed : (state : State) (name : List ℕ) (last : Option (List ℕ)) (found : List (List ℕ)) (u : List ℕ) → AreNextTags state name last found → IsNextTag state name (last_of last found) (Some u) → AreNextTags state name last (found ++ u ∷ [])
+next_pushed state name last [] u chain next = (next, tt)
+next_pushed state name last (t ∷ ts) u chain next = (chain.0, next_pushed state name (Some t) ts u chain.1 next)
+
+-- ---- listings
+
+-- there is room for one more
+pub room_pushed : (most : Option ℕ) (found : List (List ℕ)) (u : List ℕ) → IfSome most (λ k. length found ≤ k) → (most ≡ Some (length found) → ⊥) → IfSome most (λ k. length (found ++ u ∷ []) ≤ k)
+room_pushed None found u room short = tt
+room_pushed (Some k) found u room short = grind (arith, length-append)
+
+-- what the test of a limit tells
+pub some_asked : (most : Option ℕ) (none : Bool) → none ≡ option_eq nat_eq most (Some 0) → none ≡ false → most ≡ Some 0 → ⊥
+some_asked most none is fails e = true≢false (ap (λ m. option_eq nat_eq m (Some 0)) (sym e) ∙ sym is ∙ fails)
+
+pub lists_none : (state : State) (name : List ℕ) (last : Option (List ℕ)) (most : Option ℕ) (found : List (List ℕ)) → most ≡ Some 0 → found ≡ [] → IsListing state name most last found None
+lists_none state name last most found e none = subst (λ m. IsListing state name m last found None) (sym e) (none, refl)
+
+pub lists_whole : (state : State) (name : List ℕ) (last : Option (List ℕ)) (most : Option ℕ) (found : List (List ℕ)) → (most ≡ Some 0 → ⊥) → AreNextTags state name last found → IsNextTag state name (last_of last found) None → IfSome most (λ k. length found ≤ k) → IsListing state name most last found None
+lists_whole state name last None found some chain ended room = (chain, ended, room)
+lists_whole state name last (Some zero) found some chain ended room = absurd (some refl)
+lists_whole state name last (Some (suc k)) found some chain ended room = (chain, ended, room)
+
+pub lists_cut : (state : State) (name : List ℕ) (last : Option (List ℕ)) (most : Option ℕ) (found : List (List ℕ)) (next : List ℕ) → (most ≡ Some 0 → ⊥) → AreNextTags state name last found → IsNextTag state name (last_of last found) (Some next) → most ≡ Some (length found) → IsListing state name most last found most
+lists_cut state name last None found next some chain follows full = absurd (cc full)
+lists_cut state name last (Some zero) found next some chain follows full = absurd (some refl)
+lists_cut state name last (Some (suc k)) found next some chain follows full = (chain, (next, follows), refl, cc full)

@@ -4,3 +4,4 @@ pub mod AppendLaws
 pub mod EntryLaws
 pub mod JournalLaws
 pub mod StayLaws
+pub mod NameLaws

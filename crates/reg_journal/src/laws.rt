@@ -1,9 +1,9 @@
 //! Laws of journals.
 ghost use Rattle.std.specs.Prelude.{◌≡◌, ◌≢◌, ◌↔◌, ◌≤◌, ◌++◌, ◌∷◌, [], ℕ, List, None, Some, IsSome};
-ghost use Rattle.std.specs.List.{count_by};
+ghost use Rattle.std.specs.List.{AllByRecursion, count_by};
 ghost use Rattle.reg_journal.specs.Changes.{apply, replay};
 ghost use Rattle.reg_journal.specs.Entries.{IsEntry};
-ghost use Rattle.reg_journal.specs.Keeping.{IsFreely};
+ghost use Rattle.reg_journal.specs.Keeping.{IsFreely, AreKeptByNames};
 ghost use Rattle.reg_journal.specs.Kinds.{is_opening, repository_of, digest_of};
 ghost use Rattle.reg_journal.specs.Legal.{IsUntagged, IsUnlisted, IsUnlinked, IsUnnamed, IsLegal, Legal, Collectable, made_at};
 ghost use Rattle.reg_journal.specs.Past.{Past, shown};
@@ -87,4 +87,10 @@ pub fn reviews_are_legal()
 pub fn spellings_are_apart()
     ensures { (one two : Written) → IsEntry one → IsEntry two →
         entry_spelled one ≡ entry_spelled two → one ≡ two }
+{}
+
+/// A journal of entries keeps manifests and links by names and digests alone, and tags by names and tags.
+pub fn all_is_kept_by_names()
+    ensures { (journal : List Written) →
+        AllByRecursion IsEntry journal → AreKeptByNames (replay journal) }
 {}

@@ -16,9 +16,9 @@ mod writing;
 
 pub use entry::{Entry, What};
 pub use laws::{
-    beginnings_are_legal, collections_take_what_nothing_holds, condemned_digests_are_not_held,
-    one_entry_more, others_stay, reviews_are_legal, spellings_are_apart, tables_are_opened_once,
-    tags_point_to_manifests,
+    all_is_kept_by_names, beginnings_are_legal, collections_take_what_nothing_holds,
+    condemned_digests_are_not_held, one_entry_more, others_stay, reviews_are_legal,
+    spellings_are_apart, tables_are_opened_once, tags_point_to_manifests,
 };
 pub use past::{Condemned, KeptLink};
 pub use reading::read_entry;

@@ -1,7 +1,7 @@
 mod FormLaws
 mod NextLaws
-mod ItemLaws
-mod DerivedLaws
+pub mod ItemLaws
+pub mod DerivedLaws
 mod MetaLaws
 mod FirstLaws
 mod PendingLaws

@@ -137,6 +137,14 @@ link_part name part row is h =
       | inr e ↦ absurd e
     ]
 
+pub manifest_part : (name part row : List ℕ) → IsName name → Fits (2 ∷ (ended name ++ part)) row → IsDigest part
+unfolding lines_of
+manifest_part name part row is h =
+    elim (in_table 2 (ended name ++ part) row lines h) [
+      | inl f ↦ one_digest part (behind_first field.EndedName (field.Digest ∷ []) (ended name) part (name, is, refl) f.key_fields)
+      | inr e ↦ absurd e
+    ]
+
 pub tag_part : (name part row : List ℕ) → IsName name → Fits (4 ∷ (ended name ++ part)) row → IsEndedTag part
 unfolding lines_of
 tag_part name part row is h =

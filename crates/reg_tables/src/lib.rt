@@ -27,7 +27,7 @@ pub use first::first_row;
 pub use keeper_api::{Bytes, Keeper, Key};
 pub use laws::{given_rows_are_derived, rows_tell_the_past};
 pub use meta::{delay_bytes, delay_key, find_delay, has_version, version_bytes, version_key};
-pub use next::{next_child, next_link, next_named, next_tag};
+pub use next::{next_child, next_link, next_manifest, next_named, next_tag};
 pub use payload::payload_change;
 pub use reg_entries::{Kind, Named, Trouble};
 pub use rows::{BlobRow, LinkRow, ManifestRow, number_of};

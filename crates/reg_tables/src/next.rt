@@ -8,14 +8,14 @@ ghost use Rattle.keeper_api.specs.Rows.{IsAbove, IsNextRow, IfFound, Finds};
 ghost use Rattle.keeper_api.specs.Tables.{Fits};
 ghost use Rattle.reg_tables.specs.Finds.{LooksUp};
 ghost use Rattle.reg_tables.specs.InnerNexts.{IsNextBehind, IsEndedTag, bound_of};
-ghost use Rattle.reg_tables.specs.Keys.{tag_key, link_key, child_key, named_key};
+ghost use Rattle.reg_tables.specs.Keys.{tag_key, manifest_key, link_key, child_key, named_key};
 ghost use Rattle.reg_tables.specs.Nexts.{IsNextAt};
-ghost use Rattle.reg_tables.specs.Spelled.{link_spelled};
+ghost use Rattle.reg_tables.specs.Spelled.{manifest_spelled, link_spelled};
 
-use crate::LinkRow;
 use crate::find::noting;
 use crate::keys::{digest_bound, longer, name_part, spot_part, tag_bound};
 use crate::rows::{digest_of, is_free};
+use crate::{LinkRow, ManifestRow};
 use keeper_api::{Bytes, Keeper, Key, Row};
 use reg_entries::{Named, Trouble};
 use reg_names::{Digest, Name, NoMemory, Refused, Tag, Text};
@@ -44,6 +44,30 @@ pub fn next_tag<K: Keeper>(
             let tag = noting(tag_of(alloc, part.as_slice()))?;
             Ok(Some((tag, digest_of(row.as_slice()))))
         }
+        None => Ok(None),
+    }
+}
+
+/// The manifest of a repository with the least digest above `after`, or with the least of all; and `None` exactly where
+/// there is no such manifest.
+pub fn next_manifest<K: Keeper>(
+    alloc: Global,
+    keeper: &mut K,
+    name: &Name,
+    after: Option<&Digest>,
+) -> Result<Option<(Digest, ManifestRow)>, Trouble>
+    ensures value { Finds (K.kept keeper.old) result
+        (IsNextAt IsDigest (λ digest. manifest_key name.now digest) (λ x. x.0)
+        (λ x. manifest_spelled x.1) (option_copied after.entry)) }
+    ensures reads { LooksUp K.kept K.faults keeper.old keeper.new result }
+{
+    let front = noting(name_part(alloc, name))?;
+    let bound = noting(digest_bound(alloc, after))?;
+    match next_behind(alloc, keeper, 2, &front, &bound)? {
+        Some((part, row)) => Ok(Some((
+            digest_of(part.as_slice()),
+            ManifestRow::read(row.as_slice()),
+        ))),
         None => Ok(None),
     }
 }

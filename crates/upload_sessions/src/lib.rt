@@ -23,3 +23,4 @@ pub use laws::{
 pub use sealed::{Sealed, Unsealed, place_sealed, seal};
 pub use state::upload_state;
 pub use taking::{Taken, shelve, take_upload};
+pub use trouble::{depot_trouble, refusal};

@@ -9,7 +9,7 @@ use reg_entries::{Detail, No, Reply, Trouble};
 use reg_names::{NoMemory, Refused};
 
 /// The trouble of a call that the depot refused.
-pub(crate) fn depot_trouble(refused: Refused) -> Trouble
+pub fn depot_trouble(refused: Refused) -> Trouble
     ensures of_depot { IsOfDepot result }
     ensures failed { (result ≡ troubles.Depot) ↔ (refused ≡ refusals.Failed) }
 {
@@ -27,7 +27,7 @@ pub(crate) fn no_memory(_: NoMemory) -> Trouble
 }
 
 /// The refusal with this number, which tells nothing beside it.
-pub(crate) fn refusal(number: u8) -> Reply
+pub fn refusal(number: u8) -> Reply
     ensures { result ≡ refusal_with number }
 {
     Reply::Refused(No {

@@ -6,7 +6,8 @@ use Rattle.reg_entries.specs.Numbers.{blob_unknown}
 use Rattle.reg_entries.specs.declared.ask.Ask.TheVariants as asks
 use Rattle.reg_model.specs.Answers.{LacksIn, plain}
 use Rattle.files_service.specs.Answers.{Answers}
-use Rattle.files_service.proofs.AnswerLaws.{alone, blob_missing}
+use Rattle.reg_model.proofs.ReplyLaws.{alone}
+use Rattle.files_service.proofs.AnswerLaws.{blob_missing}
 use Rattle.files_service.proofs.blobs.pull_blob.Goals as goal
 
 pub returns-in_ok-reply-in-None-clause-answer : goal.returns-in_ok-reply-in-None-clause-answer

@@ -11,7 +11,8 @@ use Rattle.link_reading.specs.InnerLinks.{tag_quest, AreNoted}
 use Rattle.link_reading.specs.InnerSpots.{spot}
 use Rattle.link_reading.specs.InnerWalks.{IsFirst}
 use Rattle.link_reading.proofs.WalkLaws.{walks, stays_sound}
-use Rattle.link_reading.proofs.ListingLaws.{HasListed, lists_all, lists_next, lists_more, lists_whole, lists_cut, room_pushed, some_asked}
+use Rattle.reg_entries.proofs.ListingLaws.{lists_whole, lists_cut, room_pushed, some_asked}
+use Rattle.link_reading.proofs.ListingLaws.{HasListed, lists_all, lists_next, lists_more}
 use Rattle.link_reading.proofs.listing.tags.Goals as goal
 
 pub returns-in_default-clause-value : goal.returns-in_default-clause-value
